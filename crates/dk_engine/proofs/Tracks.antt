@@ -1,5 +1,6 @@
 -- Stretches that are led by a track end at their own points of a sample that goes on along it, and are led by it then.
 use Rattle.std.specs.Prelude.{◌≡◌, ◌≢◌, ◌^◌, ◌&&◌, ◌||◌, ◌==◌, ◌⊎◌, ◌×◌, ◌<◌, ℕ, ℤ, pos, ◌-ℤ◌, ◌*ℤ◌, Bool, true, false, All, Contains, List, [], ◌∷◌, fold, int_le, length, nat_le, refl, unsigned_abs}
+use Rattle.std.specs.List.{list_all}
 use Rattle.std.specs.Ordering.{int_eq}
 use Rattle.std.proofs.Common.{◌∙◌, ap, arith, inl, inr, subst, sym}
 use Rattle.std.proofs.Math.IntN.{*ℤ_comm}
@@ -15,7 +16,7 @@ use Rattle.dk_base.specs.declared.kinds.VarId.{VarId}
 use Rattle.dk_base.specs.declared.values.Value.{Value}
 use Rattle.dk_base.specs.declared.values.Value.TheVariants as value
 use Rattle.dk_forms.proofs.PlaneFacts.{point_of_limit}
-use Rattle.dk_forms.specs.Plane.{IsSpan, are_aligned, plane_join, plane_of}
+use Rattle.dk_forms.specs.Plane.{IsPoint, IsSpan, are_aligned, plane_join, plane_of}
 use Rattle.dk_forms.specs.declared.states.State.{State}
 use Rattle.dk_forms.specs.declared.states.State.TheVariants.{Span}
 use Rattle.dk_samples.specs.Samples.{value_in}
@@ -24,7 +25,7 @@ use Rattle.dk_engine.proofs.KnownNumbers.{same_value}
 use Rattle.dk_engine.proofs.Stretches.{before_of, grown_stretch, planar_slot}
 use Rattle.dk_engine.specs.Feeding.{with_sample}
 use Rattle.dk_engine.specs.Idle.{is_near_number}
-use Rattle.dk_engine.specs.Led.{AreLed, GetLed, GoesOn, IsLed, grown, is_led_by, is_led_over, moved_to, stands}
+use Rattle.dk_engine.specs.Led.{AreLed, GetLed, GoesOn, IsLed, grown, is_beyond, is_led_by, is_led_over, is_number, is_risen, is_still, moved_to, stands}
 use Rattle.dk_engine.specs.Narrow.{grown_state, prolonged, with_growth, with_state}
 use Rattle.dk_engine.specs.Parts.{no_slot, slot_in}
 use Rattle.dk_engine.specs.declared.driving.Still.{Still}
@@ -80,18 +81,22 @@ module _ (s t i j : ℤ) (on : s *ℤ j ≡ t *ℤ i) (p q v : ℤ × ℤ × ℤ
   goes_on = grown_stretch p q v risen_span (near_point v x.near y.near z.near) (before_each q v x.goes y.goes z.goes) all_aligned
 
 -- ---- a sample that goes on along the track
-still_number : (stills : List Still) (sample : List Value) → All (λ (s : Still). (value_in sample s.var ≡ value.Int s.number) × (is_near_number s.number ≡ true)) stills → (v : VarId) (a : ℤ)
-    → stands stills v a ≡ true → (value_in sample v ≡ value.Int a) × (is_near_number a ≡ true)
+by_number : (n : ℤ) (i : Value) → is_number n i ≡ true → i ≡ value.Int n
+by_number n (value.Int z) h = ap value.Int ((Decides-int_eq z n).0 h)
+by_number n _ h = absurd (false≢true h)
+
+still_number : (stills : List Still) (sample : List Value) → list_all (is_still sample) stills ≡ true → (v : VarId) (a : ℤ) → stands stills v a ≡ true
+    → (value_in sample v ≡ value.Int a) × (is_near_number a ≡ true)
 still_number [] sample all v a h = absurd (false≢true h)
 still_number (s ∷ stills) sample all v a h =
-    let P = λ (s : Still). (value_in sample s.var ≡ value.Int s.number) × (is_near_number s.number ≡ true) in
+    let told = and_parts (is_still sample s) (list_all (is_still sample) stills) all in
     elim (cases_Bool (s.var.0 == v.0 && int_eq s.number a)) as (λ _. (value_in sample v ≡ value.Int a) × (is_near_number a ≡ true)) [
       | inl l ↦
           let q = and_parts (s.var.0 == v.0) (int_eq s.number a) l in
-          let here = All-head P s stills all in
+          let here = and_parts (is_number s.number (value_in sample s.var)) (is_near_number s.number) told.0 in
           let e = (Decides-int_eq s.number a).0 q.1 in
-          (same_value sample s.var v q.0 a (here.0 ∙ ap value.Int e), subst (λ k. is_near_number k ≡ true) e here.1)
-      | inr n ↦ still_number stills sample (All-tail P s stills all) v a (sym (ap (λ t. t || stands stills v a) n) ∙ h)
+          (same_value sample s.var v q.0 a (by_number s.number (value_in sample s.var) here.0 ∙ ap value.Int e), subst (λ k. is_near_number k ≡ true) e here.1)
+      | inr n ↦ still_number stills sample told.1 v a (sym (ap (λ t. t || stands stills v a) n) ∙ h)
     ]
 
 module _ (t : Track) (stills : List Still) (sample : List Value) (x y : ℤ) (is : GoesOn t stills sample x y) where
@@ -101,6 +106,30 @@ module _ (t : Track) (stills : List Still) (sample : List Value) (x y : ℤ) (is
   -- a coordinate that is led goes on, and is led by the track with its new last point
   abbrev Led : VarId → ℤ → ℤ → ℤ → Type 0
   Led v a b k = Along a b k × (is_led_by (moved_to t x y) stills v a k ≡ true)
+
+  ends : ((int_le t.x1 t.x2 && int_le t.y1 t.y2) ≡ true) × (((is_near_number t.x1 && is_near_number t.y1) && (is_near_number t.x2 && is_near_number t.y2)) ≡ true)
+  ends = and_parts (int_le t.x1 t.x2 && int_le t.y1 t.y2) ((is_near_number t.x1 && is_near_number t.y1) && (is_near_number t.x2 && is_near_number t.y2)) is.risen
+
+  near_ends : ((is_near_number t.x1 && is_near_number t.y1) ≡ true) × ((is_near_number t.x2 && is_near_number t.y2) ≡ true)
+  near_ends = and_parts (is_near_number t.x1 && is_near_number t.y1) (is_near_number t.x2 && is_near_number t.y2) ends.1
+
+  rises : (int_le t.x1 t.x2 ≡ true) × (int_le t.y1 t.y2 ≡ true)
+  rises = and_parts (int_le t.x1 t.x2) (int_le t.y1 t.y2) ends.0
+
+  near_first : (is_near_number t.x1 ≡ true) × (is_near_number t.y1 ≡ true)
+  near_first = and_parts (is_near_number t.x1) (is_near_number t.y1) near_ends.0
+
+  near_last : (is_near_number t.x2 ≡ true) × (is_near_number t.y2 ≡ true)
+  near_last = and_parts (is_near_number t.x2) (is_near_number t.y2) near_ends.1
+
+  point : ((int_le t.x2 x && int_le t.y2 y) ≡ true) × ((is_near_number x && is_near_number y) ≡ true)
+  point = and_parts (int_le t.x2 x && int_le t.y2 y) (is_near_number x && is_near_number y) is.beyond
+
+  goes : (int_le t.x2 x ≡ true) × (int_le t.y2 y ≡ true)
+  goes = and_parts (int_le t.x2 x) (int_le t.y2 y) point.0
+
+  near_point_of : (is_near_number x ≡ true) × (is_near_number y ≡ true)
+  near_point_of = and_parts (is_near_number x) (is_near_number y) point.1
 
   same_int : (v : VarId) (j k : ℤ) → value_in sample v ≡ value.Int j → value_in sample v ≡ value.Int k → j ≡ k
   same_int v j k p q = ap int_of (sym p ∙ q)
@@ -134,11 +163,11 @@ module _ (t : Track) (stills : List Still) (sample : List Value) (x y : ℤ) (is
       let eb : b ≡ t.x2 = (Decides-int_eq b t.x2).0 q.1 in
       let ek : k ≡ x = same_int t.u k x (same_value sample v t.u p.0 k at) is.at_u in (
         record {
-          rises = subst (λ i. int_le i b ≡ true) (sym ea) (subst (λ i. int_le t.x1 i ≡ true) (sym eb) is.rises_u);
-          goes = subst (λ i. int_le i k ≡ true) (sym eb) (subst (λ i. int_le t.x2 i ≡ true) (sym ek) is.goes_u);
-          near_first = subst (λ i. is_near_number i ≡ true) (sym ea) is.near_x1;
-          near_last = subst (λ i. is_near_number i ≡ true) (sym eb) is.near_x2;
-          near = subst (λ i. is_near_number i ≡ true) (sym ek) is.near_x;
+          rises = subst (λ i. int_le i b ≡ true) (sym ea) (subst (λ i. int_le t.x1 i ≡ true) (sym eb) rises.0);
+          goes = subst (λ i. int_le i k ≡ true) (sym eb) (subst (λ i. int_le t.x2 i ≡ true) (sym ek) goes.0);
+          near_first = subst (λ i. is_near_number i ≡ true) (sym ea) near_first.0;
+          near_last = subst (λ i. is_near_number i ≡ true) (sym eb) near_last.0;
+          near = subst (λ i. is_near_number i ≡ true) (sym ek) near_point_of.0;
           moved = inl (same_difference k a x t.x1 ek ea, same_difference b a t.x2 t.x1 eb ea);
         },
         or_left (as_first v a k) (as_second v a k || as_still v a k) (and_from (v.0 == t.u.0) _ p.0 (and_from (int_eq a t.x1) _ q.0 ((Decides-int_eq k x).1 ek))),
@@ -152,11 +181,11 @@ module _ (t : Track) (stills : List Still) (sample : List Value) (x y : ℤ) (is
       let eb : b ≡ t.y2 = (Decides-int_eq b t.y2).0 q.1 in
       let ek : k ≡ y = same_int t.v k y (same_value sample v t.v p.0 k at) is.at_v in (
         record {
-          rises = subst (λ i. int_le i b ≡ true) (sym ea) (subst (λ i. int_le t.y1 i ≡ true) (sym eb) is.rises_v);
-          goes = subst (λ i. int_le i k ≡ true) (sym eb) (subst (λ i. int_le t.y2 i ≡ true) (sym ek) is.goes_v);
-          near_first = subst (λ i. is_near_number i ≡ true) (sym ea) is.near_y1;
-          near_last = subst (λ i. is_near_number i ≡ true) (sym eb) is.near_y2;
-          near = subst (λ i. is_near_number i ≡ true) (sym ek) is.near_y;
+          rises = subst (λ i. int_le i b ≡ true) (sym ea) (subst (λ i. int_le t.y1 i ≡ true) (sym eb) rises.1);
+          goes = subst (λ i. int_le i k ≡ true) (sym eb) (subst (λ i. int_le t.y2 i ≡ true) (sym ek) goes.1);
+          near_first = subst (λ i. is_near_number i ≡ true) (sym ea) near_first.1;
+          near_last = subst (λ i. is_near_number i ≡ true) (sym eb) near_last.1;
+          near = subst (λ i. is_near_number i ≡ true) (sym ek) near_point_of.1;
           moved = inr (inl (same_difference k a y t.y1 ek ea, same_difference b a t.y2 t.y1 eb ea));
         },
         or_right (as_first v a k) (as_second v a k || as_still v a k)
@@ -195,7 +224,7 @@ module _ (t : Track) (stills : List Still) (sample : List Value) (x y : ℤ) (is
   on_track =
       let m = minus (x, y, y) (t.x1, t.y1, t.y1) in
       let n = minus (t.x2, t.y2, t.y2) (t.x1, t.y1, t.y1) in
-      (Decides-int_eq (m.0 *ℤ n.1) (n.0 *ℤ m.1)).0 (and_parts (int_eq (m.0 *ℤ n.1) (n.0 *ℤ m.1)) _ is.aligned).0
+      (Decides-int_eq (m.0 *ℤ n.1) (n.0 *ℤ m.1)).0 (and_parts (int_eq (m.0 *ℤ n.1) (n.0 *ℤ m.1)) _ is.along).0
 
   -- a stretch that is led ends at its own point of the sample
   led_state : (u v w : VarId) (state : State) → is_led_over t stills u v w state ≡ true → (i j k : ℤ) → value_in sample u ≡ value.Int i → value_in sample v ≡ value.Int j → value_in sample w ≡ value.Int k
@@ -227,6 +256,28 @@ module _ (t : Track) (stills : List Still) (sample : List Value) (x y : ℤ) (is
     over = led.over;
     led = (led_state led.u led.v led.w slot.state led.led g.x g.y g.z at_u at_v at_w).1;
   }
+
+-- ---- the track as a stretch, and a point beyond it
+pub track_span : (t : Track) → is_risen t ≡ true → IsSpan ((t.x1, t.y1, t.y1), (t.x2, t.y2, t.y2))
+track_span t h =
+    let p : ℤ × ℤ × ℤ = (t.x1, t.y1, t.y1) in
+    let q : ℤ × ℤ × ℤ = (t.x2, t.y2, t.y2) in
+    let a = and_parts (int_le t.x1 t.x2 && int_le t.y1 t.y2) ((is_near_number t.x1 && is_near_number t.y1) && (is_near_number t.x2 && is_near_number t.y2)) h in
+    let rises = and_parts (int_le t.x1 t.x2) (int_le t.y1 t.y2) a.0 in
+    let b = and_parts (is_near_number t.x1 && is_near_number t.y1) (is_near_number t.x2 && is_near_number t.y2) a.1 in
+    let first = and_parts (is_near_number t.x1) (is_near_number t.y1) b.0 in
+    let last = and_parts (is_near_number t.x2) (is_near_number t.y2) b.1 in
+    record {
+      first = point_of_limit p (near_point p first.0 first.1 first.1);
+      last = point_of_limit q (near_point q last.0 last.1 last.1);
+      ordered = before_of p q (before_each p q rises.0 rises.1 rises.1);
+    }
+
+pub beyond_point : (t : Track) (x y : ℤ) → is_beyond t x y ≡ true → IsPoint (x, y, y)
+beyond_point t x y h =
+    let p : ℤ × ℤ × ℤ = (x, y, y) in
+    let near = and_parts (is_near_number x) (is_near_number y) ((and_parts (int_le t.x2 x && int_le t.y2 y) (is_near_number x && is_near_number y) h).1) in
+    point_of_limit p (near_point p near.0 near.1 near.1)
 
 -- ---- all that are led, where they have grown
 module _ (t : Track) (stills : List Still) where

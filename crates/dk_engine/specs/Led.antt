@@ -1,6 +1,6 @@
 -- Stretches of a line that are led by a track: two variables whose points have risen along a line, beside variables that stand still.
-use Rattle.std.specs.Prelude.{◌≡◌, ◌&&◌, ◌||◌, ◌==◌, ◌<◌, ◌×◌, ℤ, Bool, true, false, All, List, [], ◌∷◌, int_le, length}
-use Rattle.std.specs.List.{list_any}
+use Rattle.std.specs.Prelude.{◌≡◌, ◌&&◌, ◌||◌, ◌==◌, ◌<◌, ℤ, Bool, true, false, All, List, [], ◌∷◌, int_le, length}
+use Rattle.std.specs.List.{list_all, list_any}
 use Rattle.std.specs.Ordering.{int_eq}
 use Rattle.dk_base.specs.declared.kinds.VarId.{VarId}
 use Rattle.dk_base.specs.declared.values.Value.{Value}
@@ -45,22 +45,46 @@ pub record IsLed (t : Track) (stills : List Still) (slot : Slot) : Type 0 where
 abbrev pub moved_to : Track → ℤ → ℤ → Track
 moved_to t x y = record { u = t.u; v = t.v; x1 = t.x1; y1 = t.y1; x2 = x; y2 = y }
 
+-- ---- samples
+-- the value is this number
+abbrev pub is_number : ℤ → Value → Bool
+is_number n (value.Int z) = int_eq z n
+is_number n _ = false
+
+-- a variable that stands still has its number, which is near
+abbrev pub is_still : List Value → Still → Bool
+is_still sample s = is_number s.number (value_in sample s.var) && is_near_number s.number
+
+-- the points of a track are near, and each number has risen
+abbrev pub is_risen : Track → Bool
+is_risen t = (int_le t.x1 t.x2 && int_le t.y1 t.y2) && ((is_near_number t.x1 && is_near_number t.y1) && (is_near_number t.x2 && is_near_number t.y2))
+
+-- a point that is near has no number below those of the last point
+abbrev pub is_beyond : Track → ℤ → ℤ → Bool
+is_beyond t x y = (int_le t.x2 x && int_le t.y2 y) && (is_near_number x && is_near_number y)
+
+-- it lies on the line of the track
+abbrev pub is_along : Track → ℤ → ℤ → Bool
+is_along t x y = are_aligned (t.x1, t.y1, t.y1) (x, y, y) (t.x2, t.y2, t.y2)
+
 -- all that stand still have their numbers in the sample, and the point of the track's variables goes on along the track
 pub record GoesOn (t : Track) (stills : List Still) (sample : List Value) (x y : ℤ) : Type 0 where
-  pub still : All (λ (s : Still). (value_in sample s.var ≡ value.Int s.number) × (is_near_number s.number ≡ true)) stills
+  pub still : list_all (is_still sample) stills ≡ true
   pub at_u : value_in sample t.u ≡ value.Int x
   pub at_v : value_in sample t.v ≡ value.Int y
-  pub rises_u : int_le t.x1 t.x2 ≡ true
-  pub rises_v : int_le t.y1 t.y2 ≡ true
-  pub goes_u : int_le t.x2 x ≡ true
-  pub goes_v : int_le t.y2 y ≡ true
-  pub near_x1 : is_near_number t.x1 ≡ true
-  pub near_y1 : is_near_number t.y1 ≡ true
-  pub near_x2 : is_near_number t.x2 ≡ true
-  pub near_y2 : is_near_number t.y2 ≡ true
-  pub near_x : is_near_number x ≡ true
-  pub near_y : is_near_number y ≡ true
-  pub aligned : are_aligned (t.x1, t.y1, t.y1) (x, y, y) (t.x2, t.y2, t.y2) ≡ true
+  pub risen : is_risen t ≡ true
+  pub beyond : is_beyond t x y ≡ true
+  pub along : is_along t x y ≡ true
+
+-- the growth's numbers are those of the slot's three leaders in the sample
+pub record IsPointOf (sample : List Value) (slot : Slot) (g : Growth) : Type 0 where
+  pub u : VarId
+  pub v : VarId
+  pub w : VarId
+  pub over : slot.leaders ≡ u ∷ v ∷ w ∷ []
+  pub at_u : value_in sample u ≡ value.Int g.x
+  pub at_v : value_in sample v ≡ value.Int g.y
+  pub at_w : value_in sample w ≡ value.Int g.z
 
 -- ---- slots
 -- the slot with a growth

@@ -1,13 +1,12 @@
 // Stretches of a line that grow together: each coordinate is the number of one of two variables whose points have risen along a line, their
 // track, or that of a variable that stands still. Where a sample goes on along the track, each of them ends at its own point of the sample
 // then, which isn't asked of each.
-ghost use Rattle.std.specs.Prelude.{◌≡◌, ◌×◌, true, All, IfSome, IsTrue};
-ghost use Rattle.dk_base.specs.Values.{values_of};
+ghost use Rattle.std.specs.Prelude.{◌≡◌, ◌&&◌, true, IfSome, IsTrue};
+ghost use Rattle.std.specs.List.{list_all};
+ghost use Rattle.dk_base.specs.Values.{value_of, values_of};
 ghost use Rattle.dk_base.specs.declared.values.Value.TheVariants as sample_value;
 ghost use Rattle.dk_samples.specs.Samples.{value_in};
-ghost use Rattle.dk_engine.specs.Idle.{is_near_number};
-ghost use Rattle.dk_engine.specs.declared.driving.Still.{Still as KeptStill};
-ghost use Rattle.dk_engine.specs.Led.{GoesOn, IsLed, is_led_by, is_led_over, stands};
+ghost use Rattle.dk_engine.specs.Led.{GoesOn, IsLed, IsPointOf, is_along, is_beyond, is_led_by, is_led_over, is_number, is_risen, is_still, stands};
 
 use crate::Slot;
 use crate::facts::{Range, is_above, is_below};
@@ -15,6 +14,7 @@ use crate::growing::{Growth, is_near, is_on_line};
 use crate::noted::place_of;
 use crate::operations::number_at;
 use dk_base::{NoMemory, VarId, View};
+use dk_samples::value_at;
 use dk_template::State;
 use std::alloc::Global;
 
@@ -105,22 +105,29 @@ fn is_led(track: Track, stills: &[Still], slot: &Slot) -> bool
     }
 }
 
-// Whether a variable that stands still has its number, which is near, in a sample.
-fn stands_still(sample: &[View<'_>], still: &Still) -> bool
-    ensures { IsTrue result → (value_in (values_of sample.now) still.now.var ≡ sample_value.Int still.now.number) × (is_near_number still.now.number ≡ true) }
+// Whether a value is this number.
+fn is_number(number: i64, value: View<'_>) -> bool
+    ensures { result ≡ is_number number (value_of value.entry) }
 {
-    match number_at(sample, still.var) {
-        Some(x) => x == still.number && is_near(x),
-        None => false,
+    match value {
+        View::Int(x) => x == number,
+        _ => false,
     }
 }
 
+// Whether a variable that stands still has its number, which is near, in a sample.
+fn is_still(sample: &[View<'_>], still: &Still) -> bool
+    ensures { result ≡ is_still (values_of sample.now) still.now }
+{
+    is_number(still.number, value_at(sample, still.var)) && is_near(still.number)
+}
+
 // Whether all have theirs.
-fn stand_still(sample: &[View<'_>], stills: &[Still]) -> bool
-    ensures { IsTrue result → All (λ (s : KeptStill). (value_in (values_of sample.now) s.var ≡ sample_value.Int s.number) × (is_near_number s.number ≡ true)) stills.now }
+fn are_still(sample: &[View<'_>], stills: &[Still]) -> bool
+    ensures { result ≡ list_all (is_still (values_of sample.now)) stills.now }
 {
     for still in stills {
-        if !stands_still(sample, still) {
+        if !is_still(sample, still) {
             return false;
         }
     }
@@ -128,34 +135,51 @@ fn stand_still(sample: &[View<'_>], stills: &[Still]) -> bool
 }
 
 // Whether the points of a track are near, and each number has risen.
-fn is_risen(track: Track) -> bool {
+fn is_risen(track: Track) -> bool
+    ensures { result ≡ is_risen track }
+{
     (track.x1 <= track.x2 && track.y1 <= track.y2)
         && ((is_near(track.x1) && is_near(track.y1)) && (is_near(track.x2) && is_near(track.y2)))
 }
 
-// Whether a point that is near is not below the last one.
-fn is_beyond(track: Track, x: i64, y: i64) -> bool {
+// Whether a point that is near has no number below those of the last point.
+fn is_beyond(track: Track, x: i64, y: i64) -> bool
+    ensures { result ≡ is_beyond track x y }
+{
     (track.x2 <= x && track.y2 <= y) && (is_near(x) && is_near(y))
 }
 
-// Whether a point goes on along the track.
-fn goes_to(track: Track, x: i64, y: i64) -> bool {
-    if !is_risen(track) {
-        return false;
-    }
-    if !is_beyond(track, x, y) {
-        return false;
-    }
+// Whether it lies on the line of the track.
+fn is_along(track: Track, x: i64, y: i64) -> bool
+    requires risen { is_risen track ≡ true }
+    requires beyond { is_beyond track x y ≡ true }
+    ensures { result ≡ is_along track x y }
+{
     is_on_line(
         track.x1, track.y1, track.y1, track.x2, track.y2, track.y2, x, y, y,
     )
+}
+
+// Whether a point goes on along the track.
+fn goes_to(track: Track, x: i64, y: i64) -> bool
+    requires { is_risen track ≡ true }
+    ensures { result ≡ (is_beyond track x y && is_along track x y) }
+{
+    if is_beyond(track, x, y) {
+        is_along(track, x, y)
+    } else {
+        false
+    }
 }
 
 // The point of the track's variables in a sample, if it goes on along the track, beside all that stand still.
 fn point_along(track: Track, stills: &[Still], sample: &[View<'_>]) -> Option<(i64, i64)>
     ensures { IfSome result (λ p. GoesOn track stills.now (values_of sample.now) p.0 p.1) }
 {
-    if !stand_still(sample, stills) {
+    if !is_risen(track) {
+        return None;
+    }
+    if !are_still(sample, stills) {
         return None;
     }
     match (number_at(sample, track.u), number_at(sample, track.v)) {
@@ -170,17 +194,30 @@ fn point_along(track: Track, stills: &[Still], sample: &[View<'_>]) -> Option<(i
     }
 }
 
-// The point of a slot's leaders in a sample, if they have numbers.
-fn point_of(slot: &Slot, sample: &[View<'_>], place: usize) -> Option<Growth> {
+// The point of three variables in a sample, if they have numbers.
+fn point_over(sample: &[View<'_>], u: VarId, v: VarId, w: VarId, place: usize) -> Option<Growth>
+    ensures place { IfSome result (λ g. g.place ≡ place) }
+    ensures u { IfSome result (λ g. value_in (values_of sample.now) u ≡ sample_value.Int g.x) }
+    ensures v { IfSome result (λ g. value_in (values_of sample.now) v ≡ sample_value.Int g.y) }
+    ensures w { IfSome result (λ g. value_in (values_of sample.now) w ≡ sample_value.Int g.z) }
+{
+    match (
+        number_at(sample, u),
+        number_at(sample, v),
+        number_at(sample, w),
+    ) {
+        (Some(x), Some(y), Some(z)) => Some(Growth { place, x, y, z }),
+        _ => None,
+    }
+}
+
+// The point of a slot's leaders in a sample, if they are three and have numbers.
+fn point_of(slot: &Slot, sample: &[View<'_>], place: usize) -> Option<Growth>
+    ensures place { IfSome result (λ g. g.place ≡ place) }
+    ensures point { IfSome result (λ g. IsPointOf (values_of sample.now) slot.now g) }
+{
     match slot.leaders.as_slice() {
-        [u, v, w] => match (
-            number_at(sample, *u),
-            number_at(sample, *v),
-            number_at(sample, *w),
-        ) {
-            (Some(x), Some(y), Some(z)) => Some(Growth { place, x, y, z }),
-            _ => None,
-        },
+        [u, v, w] => point_over(sample, *u, *v, *w, place),
         _ => None,
     }
 }

@@ -107,7 +107,7 @@ impl Moves {
 
     /// The slots at these places grow.
     pub(crate) fn note_growths(&mut self, slots: &[Slot], growths: &[Growth]) {
-        if self.strays || growths.is_empty() || self.has_base(slots) {
+        if growths.is_empty() || self.has_base(slots) {
             return;
         }
         if let Some(first) = growths.first() {
