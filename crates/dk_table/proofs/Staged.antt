@@ -295,30 +295,34 @@ goes_none {X} c point types (stage.Front front) own old now Stands rows base sta
     let due : List ℕ = trace_text (rows_stream c point types (rows ++ own)).written in
     let refusal : Option Refusal = (rows_stream c point types (rows ++ own)).refusal in
     (from_nothing {X = X} (Err NoMemory) (rows_stream c point types rows) due refusal base old old start now now (front_nothing c point types front rows at) is calm (adds_none old due, refl), tt)
-goes_none {X} c point types (stage.Body body) own old now Stands rows base start at is calm =
-    (body_goes c point types body rows own at {X = X} (Err NoMemory) base old old start now now is calm
-    (adds_none old (rows_text body.form (rows_before (told_steps body.plan.kinds (rows_steps c.has_header body.names own)))), refl), tt)
+goes_none {X} c point types (stage.Body body) own old now Stands rows base start at is calm = (
+  body_goes c point types body rows own at {X = X} (Err NoMemory) base old old start now now is calm
+      (adds_none old (rows_text body.form (rows_before (told_steps body.plan.kinds (rows_steps c.has_header body.names own)))), refl),
+  tt,
+)
 
 -- ---- one stage behind another
 -- rows behind those that are held
 pub goes_front : {X : Type 0} (r : Result X Stop) (c : Command) (point : List ℕ) (types : ℕ) (front : Front) (own : List Placed) (old new : Texts) (before after : ℕ)
     (Stands : X → List Placed → Type 0)
     → ((rows : List Placed) → IsReady c types front rows own
-        → Writes (trace_text (rows_stream c point types (rows ++ own)).written) (rows_stream c point types (rows ++ own)).refusal old new before after r
-        × IfOk r (λ a. Stands a (rows ++ own)))
+    → Writes (trace_text (rows_stream c point types (rows ++ own)).written) (rows_stream c point types (rows ++ own)).refusal old new before after r
+    × IfOk r (λ a. Stands a (rows ++ own)))
     → Goes c point types (stage.Front front) own old new before after Stands r
 goes_front r c point types front own old new before after Stands h rows base start at is calm =
-    let own_h = h rows (front_ready c types front rows own at) in
-    (from_nothing r (rows_stream c point types rows) (trace_text (rows_stream c point types (rows ++ own)).written) (rows_stream c point types (rows ++ own)).refusal base old new start before after
-    (front_nothing c point types front rows at) is calm own_h.0, own_h.1)
+    let own_h = h rows (front_ready c types front rows own at) in (
+      from_nothing r (rows_stream c point types rows) (trace_text (rows_stream c point types (rows ++ own)).written) (rows_stream c point types (rows ++ own)).refusal base old new start before after
+          (front_nothing c point types front rows at) is calm own_h.0,
+      own_h.1,
+    )
 
 -- the first rows
 pub goes_first : {X : Type 0} (r : Result X Stop) (c : Command) (point : List ℕ) (types : ℕ) (front : Front) (names : List (List ℕ)) (own : List Placed) (old new : Texts) (before after : ℕ)
     (Stands : X → List Placed → Type 0)
     → first_names c.has_header own ≡ Some names → front ≡ record { names = names; judge = fresh (Some types) (length names); held = [] }
     → ((rows : List Placed) → IsReady c types front rows own
-        → Writes (trace_text (rows_stream c point types (rows ++ own)).written) (rows_stream c point types (rows ++ own)).refusal old new before after r
-        × IfOk r (λ a. Stands a (rows ++ own)))
+    → Writes (trace_text (rows_stream c point types (rows ++ own)).written) (rows_stream c point types (rows ++ own)).refusal old new before after r
+    × IfOk r (λ a. Stands a (rows ++ own)))
     → Goes c point types stage.Start own old new before after Stands r
 goes_first {X} r c point types front names own old new before after Stands named is_fresh h rows base start (none, some) is calm =
     let own_h = h [] (first_ready c types front names own some named is_fresh) in

@@ -46,9 +46,11 @@ returns-in_err-body-clause-goes g c = λ rows at.
     ap (held_rows separator) c.in_ok-push.ensures.ok ∙ held_more separator c.args.front.held c.args.chunk rows at.held in
     let done : is_done judge ≡ true = sym c.is_done.ensures ∙ c.if-not-is_done.false in
     let p = err_from_is_err_and c.from_residual-in_err-body.result c.from_residual-in_err-body.ensures.1 in
-    rw (p.1, p.2)
-    (take_stop c.args.task.now.command.now c.args.task.now.point.now c.args.task.now.types c.args.front rows own at judge c.as_slice.result.now c.as_slice.ensures c.in_ok-count.ensures.judged
-    next refl refl held done Body Taken c.in_err-body.field-0.0 _ _ _ _ c.in_err-body.ensures.written, tt)
+    rw (p.1, p.2) (
+      take_stop c.args.task.now.command.now c.args.task.now.point.now c.args.task.now.types c.args.front rows own at judge c.as_slice.result.now c.as_slice.ensures c.in_ok-count.ensures.judged
+          next refl refl held done Body Taken c.in_err-body.field-0.0 _ _ _ _ c.in_err-body.ensures.written,
+      tt,
+    )
 
 pub returns-clause-goes : goal.returns-clause-goes
 returns-clause-goes g c = λ rows at.
