@@ -33,4 +33,4 @@ pub returns : goal.returns
 returns g c rows base start at so_far calm =
     let here : IsBody c.args.task.now.command.now c.args.task.now.point.now c.args.task.now.types c.in-Body.field-0 rows =
     subst (λ (s : Stage). IsAt c.args.task.now.command.now c.args.task.now.point.now c.args.task.now.types s rows) c.in-Body.is at in
-    body_ends _ _ _ rows c.in-Body.field-0 here base _ start _ so_far calm
+    body_ends c.args.task.now.command.now c.args.task.now.point.now c.args.task.now.types rows c.in-Body.field-0 here base _ start _ so_far calm
