@@ -44,8 +44,9 @@ def broken_streams(program: str, arguments: List[str], files: Dict[str, bytes], 
     done = outcome.status == DONE
     if outcome.report and not outcome.report.endswith(b"\n") and outcome.status not in (WRITE, NO_MEMORY):
         return "report without its last line end"
-    is_interim = any(word.startswith("--every") for word in arguments)
-    if outcome.report and not done and not is_interim and outcome.status not in (WRITE, NO_MEMORY):
+    # reports between blocks, and rows that are written as they come
+    is_early = any(word.startswith(("--every", "--types")) for word in arguments)
+    if outcome.report and not done and not is_early and outcome.status not in (WRITE, NO_MEMORY):
         return "report of status %s" % outcome.status
     if outcome.state != files.get(STATE) and not done:
         return "state changed at status %s" % outcome.status
