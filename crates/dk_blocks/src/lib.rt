@@ -7,6 +7,8 @@
 mod block;
 mod first_lines;
 mod found;
+mod gather;
+mod judging;
 mod kept;
 pub mod laws;
 mod reader;
@@ -14,3 +16,6 @@ mod reader;
 pub use block::{is_comment, is_declaration, is_list_of_implementors};
 pub use found::Found;
 pub use reader::Reader;
+
+#[test]
+fn nothing() {}
