@@ -1,4 +1,4 @@
-pub mod BlockLaws
+pub mod FirstFaults
 pub mod Grouping
 pub mod Constants
 pub mod Values

@@ -1,8 +1,9 @@
 // Gathering the lines of a block.
-ghost use Rattle.std.specs.Prelude.{◌≡◌, ◌≤◌, [], Bool, IfSome, IsErrOf, true};
+ghost use Rattle.std.specs.Prelude.{◌≡◌, ◌≤◌, [], Bool, IfSome, IsErrOf, None, true};
 ghost use Rattle.dk_io.specs.Outside.{Rose};
 ghost use Rattle.dk_lines.specs.Reading.{left_of};
-ghost use Rattle.dk_blocks.specs.Gathering.{Gathers, GatherCounts, LineCounts, LineGathers, WithLine, stop_of_fault, stop_of_unread};
+ghost use Rattle.dk_trace.specs.Reading.{FaultOf};
+ghost use Rattle.dk_blocks.specs.Gathering.{BlockCounted, BlockGathers, ComeTo, IsFirstStop, LineCounts, LineGives, LineTaken, stop_of_fault, stop_of_unread};
 ghost use Rattle.dk_blocks.specs.History.{History, effect_of};
 ghost use Rattle.dk_blocks.specs.Standing.{Stands};
 
@@ -60,42 +61,57 @@ fn line_stop(fault: LineFault) -> Stop
 
 // Whether the block comes to the same without this line behind those that are gathered: it is a comment in front of them, or stands behind
 // `ListImplementors`.
-fn is_left_out(gathered: &BlockLines, bytes: &[u8]) -> bool {
+fn is_left_out(gathered: &BlockLines, number: u64, bytes: &[u8]) -> bool
+    ensures { result ≡ true → ComeTo gathered.now (record { number = number; bytes = bytes.now }) gathered.now }
+{
     match gathered.only() {
         Some(first) => is_list_of_implementors(first),
         None => gathered.is_empty() && is_comment(bytes),
     }
 }
 
-// One line of the file. Where it is blank, it ends the block.
-fn with_line(gathered: &mut BlockLines, number: u64, bytes: &[u8]) -> Result<Option<Close>, Stop> {
+// A line of the file is gathered, unless it is left out. Whether it is blank, and ends the block.
+fn with_line(gathered: &mut BlockLines, number: u64, bytes: &[u8]) -> Result<bool, NoMemory>
+    ensures { LineTaken gathered.old (record { number = number; bytes = bytes.now }) gathered.new result }
+{
     let words = trim_blanks(bytes);
     if words.is_empty() {
-        return Ok(Some(Close {
-            number,
-            is_over: false,
-        }));
+        return Ok(true);
     }
-    if is_left_out(gathered, words) {
-        return Ok(None);
+    if !is_left_out(gathered, number, words) {
+        gathered.push(number, words)?;
     }
-    match gathered.push(number, words) {
-        Ok(()) => Ok(None),
-        Err(NoMemory) => Err(Stop::NoMemory),
-    }
+    Ok(false)
 }
 
-// Reads one line.
+// Reads one line, and gathers it. Where the lines of the block end there, what ends them.
 fn take_line<I: Inputs>(
     inputs: &mut I,
     lines: &mut Lines,
     gathered: &mut BlockLines,
 ) -> Result<Option<Close>, Stop>
     requires { lines.old.is_started ≡ true }
+    ensures gives { (ignores : Bool) (h : History) → IfSome (left_of lines.old (I.rest inputs.old))
+        (λ xs. LineGives ignores (effect_of ignores h) gathered.old lines.old xs result gathered.new lines.new (left_of lines.new (I.rest inputs.new))) }
+    ensures counts { LineCounts lines.old result lines.new }
+    ensures emptied { IsErrOf result Stop.Read → lines.new.ahead ≡ [] }
+    ensures files { I.file inputs.new ≡ I.file inputs.old }
+    ensures later { I.faults inputs.old ≤ I.faults inputs.new }
+    ensures cause { IsErrOf result Stop.Read → Rose (I.faults inputs.old) (I.faults inputs.new) }
 {
     let next = lines.next_number();
     match lines.next(inputs) {
-        Ok(Some(line)) => with_line(gathered, line.number, line.bytes),
+        Ok(Some(line)) => {
+            let number = line.number;
+            match with_line(gathered, number, line.bytes) {
+                Ok(true) => Ok(Some(Close {
+                    number,
+                    is_over: false,
+                })),
+                Ok(false) => Ok(None),
+                Err(NoMemory) => Err(Stop::NoMemory),
+            }
+        }
         Ok(None) => Ok(Some(Close {
             number: next,
             is_over: true,
@@ -105,13 +121,17 @@ fn take_line<I: Inputs>(
 }
 
 // The first fault of the lines of a block that nothing ends yet, if they have one.
-fn judge_early(kept: &Kept, gathered: &BlockLines) -> Result<(), BlockFault> {
+fn judge_early(kept: &Kept, gathered: &BlockLines) -> Result<(), BlockFault>
+    ensures { (ignores : Bool) (h : History) → Stands kept.now h → FaultOf result (effect_of ignores h gathered.now None) }
+{
     let lines = gathered.numbered()?;
     kept.first_fault(lines.as_slice())
 }
 
 // Why a block is not read where reading stops behind these lines: their first fault, if they have one.
-fn first_stop(kept: &Kept, gathered: &BlockLines, stop: Stop) -> Stop {
+fn first_stop(kept: &Kept, gathered: &BlockLines, stop: Stop) -> Stop
+    ensures { (ignores : Bool) (h : History) → Stands kept.now h → IsFirstStop (effect_of ignores h gathered.now None) stop result }
+{
     match judge_early(kept, gathered) {
         Ok(()) => stop,
         Err(fault) => stop_of(fault),
@@ -128,6 +148,13 @@ pub(crate) fn gather_block<I: Inputs>(
 ) -> Result<Close, Stop>
     requires started { lines.old.is_started ≡ true }
     requires none { gathered.old ≡ [] }
+    ensures gives { (ignores : Bool) (h : History) → Stands kept.now h → IfSome (left_of lines.old (I.rest inputs.old))
+        (λ xs. BlockGathers ignores (effect_of ignores h) lines.old xs result gathered.new lines.new (left_of lines.new (I.rest inputs.new))) }
+    ensures counts { BlockCounted lines.old result lines.new }
+    ensures emptied { IsErrOf result Stop.Read → lines.new.ahead ≡ [] }
+    ensures files { I.file inputs.new ≡ I.file inputs.old }
+    ensures later { I.faults inputs.old ≤ I.faults inputs.new }
+    ensures cause { IsErrOf result Stop.Read → Rose (I.faults inputs.old) (I.faults inputs.new) }
 {
     let mut due = JUDGED_EARLY;
     'lines: loop {

@@ -1,12 +1,11 @@
 // What the lines of a block come to.
-ghost use Rattle.std.specs.Prelude.{◌≡◌, Bool, IfOk, None, Some, map};
-ghost use Rattle.dk_base.specs.Reading.{Line};
+ghost use Rattle.std.specs.Prelude.{◌≡◌, Bool, IfOk, IsOk, None, Some, map};
 ghost use Rattle.dk_decl.specs.BlockLines.{line_of};
 ghost use Rattle.dk_trace.specs.Reading.{FaultOf};
 ghost use Rattle.dk_blocks.specs.Finding.{FoundFits};
 ghost use Rattle.dk_blocks.specs.Fronts.{block_front};
 ghost use Rattle.dk_blocks.specs.History.{History, after_record, effect_of};
-ghost use Rattle.dk_blocks.specs.Judging.{FrontRead, IsFineSoFar, with_header};
+ghost use Rattle.dk_blocks.specs.Judging.{FrontRead, with_header};
 ghost use Rattle.dk_blocks.specs.Standing.{Closes, Stands, left_with_answer};
 
 use crate::block::{is_comment, is_declaration, is_list_of_implementors};
@@ -93,7 +92,7 @@ impl Kept {
         ignores: bool,
     ) -> Result<Option<Found<'a>>, BlockFault>
         ensures closes { (h : History) → Stands self.old h → Closes (left_with_answer self.new result) (effect_of ignores h (map line_of lines.now) (Some close)) }
-        ensures fine { IfOk result (λ _. (every : Bool) (h : History) → Stands self.old h → IsFineSoFar (effect_of every h) (map line_of lines.now)) }
+        ensures fine { IfOk result (λ _. (every : Bool) (h : History) → Stands self.old h → IsOk (effect_of every h (map line_of lines.now) None)) }
         ensures points { self.new.points ≡ self.old.points }
         ensures fits { IfOk result (λ found. FoundFits self.new.points found) }
     {
@@ -115,7 +114,7 @@ impl Kept {
         ignores: bool,
     ) -> Result<Option<Found<'a>>, BlockFault>
         ensures closes { (h : History) → Stands self.old h → Closes (left_with_answer self.new result) (after_record ignores h (line_of first.entry) (map line_of rest.now) (Some close)) }
-        ensures fine { IfOk result (λ _. (every : Bool) (h : History) → Stands self.old h → IsFineSoFar (after_record every h (line_of first.entry)) (map line_of rest.now)) }
+        ensures fine { IfOk result (λ _. (every : Bool) (h : History) → Stands self.old h → IsOk (after_record every h (line_of first.entry) (map line_of rest.now) None)) }
         ensures points { self.new.points ≡ self.old.points }
         ensures fits { IfOk result (λ found. FoundFits self.new.points found) }
     {

@@ -16,6 +16,3 @@ mod reader;
 pub use block::{is_comment, is_declaration, is_list_of_implementors};
 pub use found::Found;
 pub use reader::Reader;
-
-#[test]
-fn nothing() {}

@@ -10,10 +10,10 @@ ghost use Rattle.dk_blocks.specs.AtHand.{HandCounts, HandGives, IsAtHand};
 ghost use Rattle.dk_blocks.specs.Finding.{FoundFits};
 ghost use Rattle.dk_blocks.specs.Fitting.{ConstantsFit, Extends, HasFittingConstants};
 ghost use Rattle.dk_blocks.specs.History.{History, effect_of, file_ended, nothing_by, with_declaration};
-ghost use Rattle.dk_blocks.specs.Standing.{Fits, IsBetweenFiles, ReaderStandsFor, Stands, block_resumed, file_of, implicit_of, left_behind, left_with_answer, over_of, points_of};
-ghost use Rattle.dk_blocks.specs.LineSteps.{LineGives, EndGives, BlankGives, WordsGive, block_fault_in, fault_in_file, BlockGives, BlockCounts, LineShape, EndShape, ShapeAt, ClosesAt, LineStep, LineStepShape, StepShape, StepGives, StepCounts, line_turn, stop_of_fault, stop_of_unread};
+ghost use Rattle.dk_blocks.specs.Standing.{IsBetweenFiles, ReaderStandsFor, Stands, file_of, implicit_of, left_with_answer, over_of, points_of};
+ghost use Rattle.dk_blocks.specs.BlockSteps.{BlockCounts, BlockGives, block_fault_in, ending_of, fault_in_file};
+ghost use Rattle.dk_blocks.specs.Judging.{Judged};
 ghost use Rattle.dk_blocks.specs.Steps.{DeclareGives, IsInFile, NextBlock, ReaderCounts};
-ghost use Rattle.dk_blocks.specs.Turns.{AfterFits, ending_of, turn_of};
 
 use crate::found::Found;
 use crate::gather::{Close, Stop, gather_block, stop_of};
@@ -53,7 +53,12 @@ fn judge_gathered<'a>(
     gathered: &BlockLines,
     close: u64,
     ignores: bool,
-) -> Result<Option<Found<'a>>, Stop> {
+) -> Result<Option<Found<'a>>, Stop>
+    ensures gives { (h : History) → Stands kept.old h → Judged ignores h kept.new gathered.now close result }
+    ensures points { kept.new.points ≡ kept.old.points }
+    ensures fits { IfOk result (λ found. FoundFits kept.new.points found) }
+    ensures never { IsErrOf result Stop.Read → ⊥ }
+{
     match gathered.numbered() {
         Ok(lines) => match kept.judge(arena, lines.as_slice(), close, ignores) {
             Ok(found) => Ok(found),

@@ -3,5 +3,5 @@ pub mod LastLines
 pub mod PastLines
 pub mod LastWord
 pub mod ByPosition
-pub mod Unfaulted
+pub mod FirstFaults
 mod Examples
