@@ -133,6 +133,11 @@ none_of_front ignores h front back ok = none_before ignores h front (go (effect_
     go (Ok t) is = refl
     go (Err e) is = absurd (no (effect_of ignores h (front ++ back) None) e ok (faults_stay ignores h front back None e is))
 
+-- no lines are no block
+pub no_lines : (ignores : Bool) (h : History) (close : Option ℕ) → effect_of ignores h [] close ≡ Ok (no_block h)
+unfolding effect_of
+no_lines ignores h close = refl
+
 -- ---- lines that are left out
 
 -- a comment in front of a block

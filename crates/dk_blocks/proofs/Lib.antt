@@ -10,6 +10,7 @@ pub mod Recording
 pub mod LastLines
 mod Examples
 pub mod Stepping
+pub mod Gathered
 pub mod AtHand
 pub mod FirstLines
 pub mod Added

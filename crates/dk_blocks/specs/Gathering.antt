@@ -86,6 +86,7 @@ pub record Closed (ignores : Bool) (read : Reads Taken) (old : List Line) (r : R
   pub nothing : close.is_over ≡ true → ys ≡ []
   pub ends : xs ≡ [] → close.is_over ≡ true
   pub last : LeavesBlank r' ys → LeavesBlank r xs
+  pub longer : (more : List Line) × (new ≡ old ++ more)
   pub takes : after_next ignores (behind read old) (groups_left false r true xs)
       ≡ behind_group ignores close.is_over (read new (Some close.number)) (groups_left close.is_over r' true ys)
   pub cut : (d rest : List ℕ) → ys ≡ d ++ rest

@@ -4,7 +4,7 @@ use Rattle.dk_blocks.specs.History.{effect_of}
 use Rattle.dk_blocks.specs.Standing.{block_resumed}
 use Rattle.dk_blocks.specs.declared.reader.Step.{Step}
 use Rattle.dk_blocks.specs.declared.reader.Step.TheVariants.{More, Ended}
-use Rattle.dk_blocks.specs.declared.reader.Stop.{Stop}
+use Rattle.dk_blocks.specs.declared.gather.Stop.{Stop}
 use Rattle.dk_blocks.specs.LineSteps.{ClosesAt, ShapeAt, StepGives, StepShape, StepCounts, TurnCounts}
 use Rattle.dk_blocks.proofs.Stepping.{begun, block_counts, closed_on, fits_at, told_on, told_stop}
 use Rattle.dk_blocks.specs.Turns.{AfterFits, Goes, Ends, ending_at, turn_of}
