@@ -24,6 +24,11 @@ front_header header last l ls o is at =
     ap (λ b. cond b (block_front header last ls) (at_header_line (header_line header l.bytes) l.number (record { header = header; last = last; lines = l ∷ ls }) (λ next. block_front next (Some l.number) ls))) is
     ∙ ap (λ (p : Option (Result Header Why)). at_header_line p l.number (record { header = header; last = last; lines = l ∷ ls }) (λ next. block_front next (Some l.number) ls)) at
 
+-- the first line of a record
+pub front_record : (header : Header) (last : Option ℕ) (l : Line) (ls : List Line) → is_comment l.bytes ≡ false → header_line header l.bytes ≡ None
+    → block_front header last (l ∷ ls) ≡ Ok (record { header = header; last = last; lines = l ∷ ls })
+front_record header last l ls is at = front_header header last l ls None is at
+
 -- what an answer of a header says of the line
 pub answered_true : (o : Option (Result Header Why)) (h h' : Header) → HeaderAnswers o h (Ok true) h' → o ≡ Some (Ok h')
 answered_true None h h' a = let e = a.0 in absurd (cc (e))

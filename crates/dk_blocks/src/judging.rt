@@ -5,7 +5,7 @@ ghost use Rattle.dk_trace.specs.Reading.{FaultOf};
 ghost use Rattle.dk_blocks.specs.Finding.{FoundFits};
 ghost use Rattle.dk_blocks.specs.Fronts.{block_front};
 ghost use Rattle.dk_blocks.specs.History.{History, after_record, effect_of};
-ghost use Rattle.dk_blocks.specs.Judging.{FrontRead, with_header};
+ghost use Rattle.dk_blocks.specs.Judging.{FrontLineRead, FrontRead, with_header};
 ghost use Rattle.dk_blocks.specs.Standing.{Closes, Stands, left_with_answer};
 
 use crate::block::{is_comment, is_declaration, is_list_of_implementors};
@@ -28,7 +28,7 @@ pub(crate) struct Front<'b> {
 
 /// What one line in front of the record of a block comes to.
 #[derive(Clone, Copy)]
-enum FrontLine {
+pub(crate) enum FrontLine {
     /// A comment.
     Comment,
     /// A header line, which is in force now.
@@ -38,7 +38,9 @@ enum FrontLine {
 }
 
 // A line in front of the record, or the first one of the record.
-fn front_line(header: &mut Header, line: u64, bytes: &[u8]) -> Result<FrontLine, BlockFault> {
+fn front_line(header: &mut Header, line: u64, bytes: &[u8]) -> Result<FrontLine, BlockFault>
+    ensures { FrontLineRead header.old header.new (record { number = line; bytes = bytes.now }) result }
+{
     if is_comment(bytes) {
         return Ok(FrontLine::Comment);
     }

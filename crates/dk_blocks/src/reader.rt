@@ -46,26 +46,28 @@ pub(crate) struct End<'a> {
     pub(crate) found: Option<Found<'a>>,
 }
 
-// What the gathered lines of a block come to, which end here.
+// What the gathered lines of a block come to, which end here. They go.
 fn judge_gathered<'a>(
     kept: &mut Kept,
     arena: &'a Bump,
-    gathered: &BlockLines,
+    gathered: &mut BlockLines,
     close: u64,
     ignores: bool,
 ) -> Result<Option<Found<'a>>, Stop>
-    ensures gives { (h : History) → Stands kept.old h → Judged ignores h kept.new gathered.now close result }
+    ensures gives { (h : History) → Stands kept.old h → Judged ignores h kept.new gathered.old close result }
     ensures points { kept.new.points ≡ kept.old.points }
     ensures fits { IfOk result (λ found. FoundFits kept.new.points found) }
     ensures never { IsErrOf result Stop.Read → ⊥ }
 {
-    match gathered.numbered() {
+    let judged = match gathered.numbered() {
         Ok(lines) => match kept.judge(arena, lines.as_slice(), close, ignores) {
             Ok(found) => Ok(found),
             Err(fault) => Err(stop_of(fault)),
         },
         Err(NoMemory) => Err(Stop::NoMemory),
-    }
+    };
+    gathered.clear();
+    judged
 }
 
 // Reads up to the end of the next block. Lines that are no block are passed over. The values of its record lie in the arena.
@@ -321,7 +323,6 @@ impl Reader {
         ensures counts { (file_of self.new ≡ min (file_of self.old + 1) (2 ^ 32 - 1)) × (over_of self.new ≡ false) }
     {
         self.kept.end_file();
-        self.gathered.clear();
         self.file = self.file.saturating_add(1);
         self.is_over = false;
     }

@@ -4,4 +4,5 @@ pub mod PastLines
 pub mod LastWord
 pub mod ByPosition
 pub mod FirstFaults
+pub mod VarGroups
 mod Examples

@@ -2,6 +2,7 @@ pub mod Joined
 pub mod Marked
 pub mod Left
 pub mod FirstFaults
+pub mod Variables
 pub mod Fitted
 pub mod ByPosition
 pub mod Tidy
