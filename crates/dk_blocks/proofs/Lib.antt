@@ -11,6 +11,7 @@ pub mod LastLines
 mod Examples
 pub mod Stepping
 pub mod Gathered
+pub mod Closing
 pub mod AtHand
 pub mod FirstLines
 pub mod Added

@@ -1,5 +1,5 @@
 -- What is read of the lines of a block.
-use Rattle.std.specs.Prelude.{◌≡◌, ⊥, ℕ, Bool, true, false, List, map, Option, Some, None, Result, Ok, Err, IsOk}
+use Rattle.std.specs.Prelude.{◌≡◌, ℕ, Bool, true, false, List, map, Option, Some, None, Result, Ok, Err, IsOk}
 use Rattle.dk_base.specs.Reading.{Line, LineFault}
 use Rattle.dk_base.specs.declared.faults.BlockFault.{BlockFault}
 use Rattle.dk_base.specs.declared.faults.BlockFault.TheVariants.{Refused, NoMemory}

@@ -125,10 +125,10 @@ fn read_variable<'b>(
 }
 
 // The variables of these lines, four for each.
-fn read_vars(
+fn read_vars<'b>(
     alloc: Global,
     implicit: bool,
-    lines: &[(u64, &[u8])],
+    lines: &'b [(u64, &'b [u8])],
     is_closed: bool,
 ) -> Result<Vars, BlockFault>
     ensures { (close : Option ℕ) → is_some close ≡ is_closed → AnswerAgrees result (from_name implicit [] (map line_of lines.now) close) }

@@ -85,11 +85,11 @@ fn with_var(alloc: Global, vars: Vars, ended: OpenVar) -> Result<Vars, BlockFaul
 }
 
 // The variables of these lines, which begin with a `variable` line. The last one ends where the block is closed.
-fn read_vars(
+fn read_vars<'b>(
     alloc: Global,
     implicit: bool,
     edges: &List<EdgeDecl>,
-    lines: &[(u64, &[u8])],
+    lines: &'b [(u64, &'b [u8])],
     is_closed: bool,
 ) -> Result<Vars, BlockFault>
     requires { (groups (map line_of lines.now)).0 ≡ [] }

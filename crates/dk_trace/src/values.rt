@@ -100,10 +100,10 @@ fn room_for<'a>(arena: &'a Arena, len: usize) -> Result<Vec<View<'a>, &'a Arena>
 
 /// The values that the lines of a record give, or their first fault. Of a record that is cut off, those that stand whole in front of the
 /// cut.
-pub(crate) fn read_values<'a>(
+pub(crate) fn read_values<'a, 'b>(
     arena: &'a Arena,
     vars: &[VarDecl],
-    lines: &[(u64, &[u8])],
+    lines: &'b [(u64, &'b [u8])],
     close: Option<u64>,
 ) -> Result<&'a [View<'a>], BlockFault>
     ensures { Shows (λ views. shown_by views.now) result (record_values vars.now (map line_of lines.now) close) }
