@@ -23,13 +23,13 @@ use Rattle.dk_blocks.specs.Judging.{IsNone}
 -- ---- what stands in front of a record
 
 -- the front of these lines, with more behind them
+abbrev lines_behind : Front → List Line → List Line → Result Front LineFault
+lines_behind f [] more = block_front f.header f.last more
+lines_behind f (l ∷ ls) more = Ok (record { header = f.header; last = f.last; lines = l ∷ ls ++ more })
+
 abbrev front_behind : Result Front LineFault → List Line → Result Front LineFault
+front_behind (Ok f) more = lines_behind f f.lines more
 front_behind (Err e) more = Err e
-front_behind (Ok f) more = behind f f.lines
-  where
-    behind : Front → List Line → Result Front LineFault
-    behind f [] = block_front f.header f.last more
-    behind f (l ∷ ls) = Ok (record { header = f.header; last = f.last; lines = l ∷ ls ++ more })
 
 pub front_longer : (header : Header) (last : Option ℕ) (front more : List Line) → block_front header last (front ++ more) ≡ front_behind (block_front header last front) more
 front_longer header last [] more = refl
@@ -80,7 +80,8 @@ faults_stay ignores h front more close e is =
     lines : (f : Front) (ls : List Line) → f.lines ≡ ls → after_front ignores h f None ≡ Err e → (front_behind (Ok f) more >>= λ g. after_front ignores h g close) ≡ Err e
     lines f [] at is = absurd (no_fault_without (record h { header = f.header }) f.last e (sym (ap (λ (ls : List Line). after_lines ignores (record h { header = f.header }) f.last ls None) at) ∙ is))
     lines f (l ∷ ls) at is =
-        rw at (records_stay ignores (record h { header = f.header }) l ls more close e (sym (ap (λ (ls : List Line). after_lines ignores (record h { header = f.header }) f.last ls None) at) ∙ is))
+        ap (λ (ls : List Line). lines_behind f ls more >>= λ g. after_front ignores h g close) at
+        ∙ records_stay ignores (record h { header = f.header }) l ls more close e (sym (ap (λ (ls : List Line). after_lines ignores (record h { header = f.header }) f.last ls None) at) ∙ is)
 
     go : (r : Result Front LineFault) → (r >>= λ f. after_front ignores h f None) ≡ Err e → (front_behind r more >>= λ f. after_front ignores h f close) ≡ Err e
     go (Err d) is = is

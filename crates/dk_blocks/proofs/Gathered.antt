@@ -167,12 +167,15 @@ line_end ignores h old r r' (Some xs) left n is next =
 pub line_stops : (ignores : Bool) (h : History) (old : List Line) (r r' : Reading) (o left : Option (List ℕ)) (fault : fault.LineFault) → IsNextLine r o (Err fault) r' left
     → IfSome o (λ xs. LineGives ignores (effect_of ignores h) old r xs (Err (stop_of_unread fault)) old r' left)
 line_stops ignores h old r r' None left fault next = tt
-line_stops ignores h old r r' (Some xs) left fault next = (refl, stops_here ignores h old r r' xs left fault next.gives)
+line_stops ignores h old r r' (Some xs) left line.Read next = (refl, stops_here ignores h old r r' xs left line.Read next.gives)
+line_stops ignores h old r r' (Some xs) left (line.LongLine n) next = (refl, stops_here ignores h old r r' xs left (line.LongLine n) next.gives)
+line_stops ignores h old r r' (Some xs) left (line.TooLong n) next = (refl, stops_here ignores h old r r' xs left (line.TooLong n) next.gives)
+line_stops ignores h old r r' (Some xs) left line.NoMemory next = tt
 
-pub line_unkept : (ignores : Bool) (h : History) (old : List Line) (r r' : Reading) (o left : Option (List ℕ))
-    → IfSome o (λ xs. LineGives ignores (effect_of ignores h) old r xs (Err NoMemory) old r' left)
-line_unkept ignores h old r r' None left = tt
-line_unkept ignores h old r r' (Some xs) left = (refl, tt)
+pub line_unkept : (ignores : Bool) (h : History) (old new : List Line) (r r' : Reading) (o left : Option (List ℕ))
+    → IfSome o (λ xs. LineGives ignores (effect_of ignores h) old r xs (Err NoMemory) new r' left)
+line_unkept ignores h old new r r' None left = tt
+line_unkept ignores h old new r r' (Some xs) left = tt
 
 -- ---- lines and totals
 pub counts_more : (r r' : Reading) (o left : Option (List ℕ)) (l : Line) → IsNextLine r o (Ok (Some l)) r' left → LineCounts r (Ok None) r'
@@ -200,11 +203,11 @@ gathers_none ignores read r xs = record {
 longer_on : (old mid new : List Line) → ((more : List Line) × (mid ≡ old ++ more)) → ((more : List Line) × (new ≡ mid ++ more)) → (more : List Line) × (new ≡ old ++ more)
 longer_on old mid new a b = (a.0 ++ b.0, b.1 ∙ ap (λ (ls : List Line). ls ++ b.0) a.1 ∙ append_assoc old a.0 b.0)
 
-within_on : {A B C : Type 0} (read : Reads Taken) (mid new : List Line) (first then last : Result Stepped LineFault) → (A → C) → (B → C) → ((more : List Line) × (new ≡ mid ++ more))
-    → IsCutWithin A read mid first then → IsCutWithin B read new then last → IsCutWithin C read new first last
-within_on read mid new first then last one two longer (inl same) (inl more) = inl (same ∙ more)
-within_on read mid new first then last one two longer (inl same) (inr none) = inr (two none.0, (none.1.0, (none.1.1.0, none.1.1.1, same ∙ none.1.1.2)))
-within_on read mid new first then last one two longer (inr none) more =
+within_on : {A B C : Type 0} (read : Reads Taken) (mid new : List Line) (first after last : Result Stepped LineFault) → (A → C) → (B → C) → ((more : List Line) × (new ≡ mid ++ more))
+    → IsCutWithin A read mid first after → IsCutWithin B read new after last → IsCutWithin C read new first last
+within_on read mid new first after last one two longer (inl same) (inl more) = inl (same ∙ more)
+within_on read mid new first after last one two longer (inl same) (inr none) = inr (two none.0, (none.1.0, (none.1.1.0, none.1.1.1, same ∙ none.1.1.2)))
+within_on read mid new first after last one two longer (inr none) more =
     inr (one none.0, (none.1.0, (none.1.1.0 ++ longer.0, longer.1 ∙ ap (λ (ls : List Line). ls ++ longer.0) none.1.1.1 ∙ append_assoc none.1.0 none.1.1.0 longer.0, none.1.1.2)))
 
 pub gathers_on : (ignores : Bool) (read : Reads Taken) (old mid new : List Line) (r r1 r2 : Reading) (xs ys zs : List ℕ)
@@ -296,10 +299,10 @@ first_stops ignores h lines r r1 r2 xs ys left stop NoMemory a b (inr is) = tt
 
 -- ---- the lines of a block that were judged
 
-alike_within : {A : Type 0} (ignores : Bool) (h : History) (lines : List Line) (all later then : Result Stepped LineFault) → IsOk (effect_of ignores h lines None) → later ≡ then
-    → IsCutWithin A (effect_of ignores h) lines all later → IsCutAlikeOr A all then
-alike_within ignores h lines all later then ok is (inl same) = inl (same ∙ is)
-alike_within ignores h lines all later then ok is (inr none) = inr (none.0, subst IsNoBlock (sym none.1.1.2) (no_block_cut ignores h none.1.0 none.1.1.0 lines none.1.1.1 ok))
+alike_within : {A : Type 0} (ignores : Bool) (h : History) (lines : List Line) (all later after : Result Stepped LineFault) → IsOk (effect_of ignores h lines None) → later ≡ after
+    → IsCutWithin A (effect_of ignores h) lines all later → IsCutAlikeOr A all after
+alike_within ignores h lines all later after ok is (inl same) = inl (same ∙ is)
+alike_within ignores h lines all later after ok is (inr none) = inr (none.0, subst IsNoBlock (sym none.1.1.2) (no_block_cut ignores h none.1.0 none.1.1.0 lines none.1.1.1 ok))
 
 -- a block, or the file's end
 group_ends : (ignores : Bool) (h : History) (found : Option Found) (over : Bool) (gs : Groups) → (over ≡ false → is_some found ≡ true)

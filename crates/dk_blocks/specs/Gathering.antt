@@ -107,7 +107,9 @@ abbrev pub LineGives : Bool → Reads Taken → List Line → Reading → List �
 LineGives ignores read old r xs (Ok None) new r' left' = (ys : List ℕ) × (left' ≡ Some ys) × Gathers ignores read old r xs new r' ys
 LineGives ignores read old r xs (Ok (Some close)) new r' left' =
     (ys : List ℕ) × (left' ≡ Some ys) × Closed ignores read old r xs new close r' ys
-LineGives ignores read old r xs (Err stop) new r' left' = (new ≡ old) × StopsBehind ignores read old r xs stop left'
+LineGives ignores read old r xs (Err (Refused line why)) new r' left' = (new ≡ old) × StopsBehind ignores read old r xs (Refused line why) left'
+LineGives ignores read old r xs (Err Read) new r' left' = (new ≡ old) × StopsBehind ignores read old r xs Read left'
+LineGives ignores read old r xs (Err NoMemory) new r' left' = ⊤
 
 -- lines and totals, whatever is told
 abbrev pub CloseCounts : Reading → Close → Reading → Type 0

@@ -161,6 +161,7 @@ pub(crate) fn gather_block<I: Inputs>(
         match take_line(inputs, lines, gathered) {
             Ok(Some(close)) => return Ok(close),
             Ok(None) => {}
+            Err(Stop::NoMemory) => return Err(Stop::NoMemory),
             Err(stop) => return Err(first_stop(kept, gathered, stop)),
         }
         if gathered.size() >= due {
