@@ -47,3 +47,21 @@ var_next implicit es vs first behind own others close begins is rest =
     ∙ ap (λ (ls : List Line). open_var vs first >>= λ o. each_line (var_line implicit es) o ls >>= λ w. with_var vs w (has_ended (groups behind).1 close) >>= λ more. vars_after implicit es more (groups behind).1 close) (sym is)
     ∙ ap (λ (b : Bool). open_var vs first >>= λ o. each_line (var_line implicit es) o own >>= λ w. with_var vs w b >>= λ more. vars_after implicit es more (groups behind).1 close) (ended others (groups behind).1 close rest)
     ∙ ap (λ (g : List Line × List (Line × List Line)). open_var vs first >>= λ o. each_line (var_line implicit es) o own >>= λ w. with_var vs w (is_some close || not (is_empty others)) >>= λ more. vars_after implicit es more g.1 close) (sym rest)
+
+-- ---- the lines in front of the first `variable` line
+
+-- they are the first group, and those from there on are the others
+abbrev pub AreCut : List Line → List Line → List Line → Type 0
+AreCut own others ls = (own ≡ (groups ls).0) × (groups others ≡ ([], (groups ls).1))
+
+pub cut_here : (l : Line) (ls : List Line) → is_variable l ≡ true → AreCut [] (l ∷ ls) (l ∷ ls)
+cut_here l ls is =
+    let P : Bool → Type 0 = λ b. ([] ≡ (if b then ([], (l, (groups ls).0) ∷ (groups ls).1) else (l ∷ (groups ls).0, (groups ls).1)).0)
+    × ((if b then ([], (l, (groups ls).0) ∷ (groups ls).1) else (l ∷ (groups ls).0, (groups ls).1)) ≡ ([], (if b then ([], (l, (groups ls).0) ∷ (groups ls).1) else (l ∷ (groups ls).0, (groups ls).1)).1)) in
+    subst P (sym is) (refl, refl)
+
+pub cut_later : (l : Line) (own others ls : List Line) → is_variable l ≡ false → AreCut own others ls → AreCut (l ∷ own) others (l ∷ ls)
+cut_later l own others ls is cut =
+    let P : Bool → Type 0 = λ b. ((l ∷ own) ≡ (if b then ([], (l, (groups ls).0) ∷ (groups ls).1) else (l ∷ (groups ls).0, (groups ls).1)).0)
+    × (groups others ≡ ([], (if b then ([], (l, (groups ls).0) ∷ (groups ls).1) else (l ∷ (groups ls).0, (groups ls).1)).1)) in
+    subst P (sym is) (ap (λ (xs : List Line). l ∷ xs) cut.0, cut.1)

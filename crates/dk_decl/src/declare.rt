@@ -1,5 +1,5 @@
 // A declaration that begins with `DECLARE`, whose lines are read by their positions.
-ghost use Rattle.std.specs.Prelude.{◌≡◌, ◌∷◌, [], ℕ, Option, is_some, map};
+ghost use Rattle.std.specs.Prelude.{◌≡◌, ◌<◌, ◌∷◌, [], ℕ, IfOk, IfSome, Option, is_some, length, map};
 ghost use Rattle.dk_decl.specs.DeclareBlock.{VariableRead, comparability, constant_text, declare_lines, from_name, new_name, old_form_var, representation};
 ghost use Rattle.dk_decl.specs.BlockLines.{line_of};
 ghost use Rattle.dk_decl.specs.Outcomes.{AnswerAgrees};
@@ -107,7 +107,8 @@ fn read_variable<'b>(
     name: (u64, &[u8]),
     behind: &'b [(u64, &'b [u8])],
 ) -> Result<Option<(VarDecl, &'b [(u64, &'b [u8])])>, BlockFault>
-    ensures { VariableRead implicit vars.now (line_of name.entry ∷ map line_of behind.now) name.0 result }
+    ensures reads { VariableRead implicit vars.now (line_of name.entry ∷ map line_of behind.now) name.0 result }
+    ensures shorter { IfOk result (λ found. IfSome found (λ r. length r.1.now < length behind.now)) }
 {
     let own = new_name(alloc, vars, name.0, name.1)?;
     match behind {

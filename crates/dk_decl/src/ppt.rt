@@ -1,11 +1,10 @@
 // A declaration that begins with `ppt`.
-ghost use Rattle.std.specs.Prelude.{◌≡◌, [], ◌∷◌, ℕ, List as Listed, Option, is_some, map};
-ghost use Rattle.dk_base.specs.Reading.{Line};
+ghost use Rattle.std.specs.Prelude.{◌≡◌, ◌≤◌, [], ◌∷◌, ℕ, Option, is_some, length, map, true};
 ghost use Rattle.dk_decl.specs.BlockLines.{line_of};
 ghost use Rattle.dk_decl.specs.LineWords.{each_line};
 ghost use Rattle.dk_decl.specs.Heads.{head_line};
 ghost use Rattle.dk_decl.specs.Outcomes.{AnswerAgrees};
-ghost use Rattle.dk_decl.specs.PptBlock.{groups, is_variable, point_name, ppt_of, vars_after};
+ghost use Rattle.dk_decl.specs.PptBlock.{groups, is_variable, point_name, ppt_of, vars_after, with_var};
 ghost use Rattle.dk_decl.specs.Variables.{var_line};
 
 use crate::decls::{EdgeDecl, PointDecl};
@@ -40,6 +39,7 @@ fn is_variable(line: u64, bytes: &[u8]) -> bool
 fn own_lines<'b>(lines: &'b [(u64, &'b [u8])]) -> (&'b [(u64, &'b [u8])], &'b [(u64, &'b [u8])])
     ensures own { map line_of result.0.now ≡ (groups (map line_of lines.now)).0 }
     ensures others { groups (map line_of result.1.now) ≡ ([], (groups (map line_of lines.now)).1) }
+    ensures shorter { length result.1.now ≤ length lines.now }
 {
     let len = lines
         .iter()
