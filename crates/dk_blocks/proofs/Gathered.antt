@@ -112,7 +112,7 @@ closed_end ignores h old r r' xs n is none number room = record {
             [],
             sym (append-nil old),
             ap (λ (bytes : List ℕ). after_next ignores (behind (effect_of ignores h) old) (groups_of (lines_left r false bytes))) nothing
-            ∙ ap (λ (left : Left). after_next ignores (behind (effect_of ignores h) old) (groups_of left)) (at_break r) ∙ at_cut ignores (effect_of ignores h) old,
+                ∙ ap (λ (left : Left). after_next ignores (behind (effect_of ignores h) old) (groups_of left)) (at_break r) ∙ at_cut ignores (effect_of ignores h) old,
           ),
         ),
       );
@@ -149,13 +149,12 @@ line_gathered ignores h old new r r' (Some xs) left l next taken =
 pub line_blank : (ignores : Bool) (h : History) (old new : List Line) (r r' : Reading) (o left : Option (List ℕ)) (l : Line) → IsNextLine r o (Ok (Some l)) r' left
     → LineTaken old l new (Ok true) → IfSome o (λ xs. LineGives ignores (effect_of ignores h) old r xs (Ok (Some (record { number = l.number; is_over = false }))) new r' left)
 line_blank ignores h old new r r' None left l next taken = tt
-line_blank ignores h old new r r' (Some xs) left l next taken =
-    (
-      next.gives.0,
-      next.gives.1,
-      subst (λ (ls : List Line). Closed ignores (effect_of ignores h) old r xs ls (record { number = l.number; is_over = false }) r' next.gives.0) (sym taken.1)
+line_blank ignores h old new r r' (Some xs) left l next taken = (
+  next.gives.0,
+  next.gives.1,
+  subst (λ (ls : List Line). Closed ignores (effect_of ignores h) old r xs ls (record { number = l.number; is_over = false }) r' next.gives.0) (sym taken.1)
       (closed_blank ignores h old r r' xs next.gives.0 l next.gives.2 taken.0),
-    )
+)
 
 pub line_end : (ignores : Bool) (h : History) (old : List Line) (r r' : Reading) (o left : Option (List ℕ)) (n : ℕ) → n ≡ r.number + 1 → IsNextLine r o (Ok None) r' left
     → IfSome o (λ xs. LineGives ignores (effect_of ignores h) old r xs (Ok (Some (record { number = n; is_over = true }))) old r' left)

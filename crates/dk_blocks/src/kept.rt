@@ -133,7 +133,10 @@ impl Kept {
     }
 
     /// A block ends whose last header line has this number, and that has no record.
-    pub(crate) fn without_record<'a>(&self, last: Option<u64>) -> Result<Option<Found<'a>>, BlockFault>
+    pub(crate) fn without_record<'a>(
+        &self,
+        last: Option<u64>,
+    ) -> Result<Option<Found<'a>>, BlockFault>
         ensures closes { (h : History) → Stands self.now h → (close : ℕ) → Closes (left_with_answer self.now result) (without_record h last (Some close)) }
         ensures fits { IfOk result (λ found. FoundFits self.now.points found) }
     {
