@@ -52,14 +52,14 @@ values_ok (v ∷ vs) = by v.constant_line (values_ok vs)
     by true h = then_ok (known_values v.constant) (record_values vs [] None) h
     by false h = refl
 
-no_fault : {A : Type 0} (read : Result A LineFault) (e : LineFault) → IsOk read → read ≡ Err e → ⊥
-no_fault (Ok x) e ok is = cc is
+no_fault : (read : Result (List Value) LineFault) (e : LineFault) → IsOk read → body_with None read ≡ Err e → ⊥
+no_fault (Ok xs) e ok is = cc is
 no_fault (Err d) e ok is = cc ok
 
 -- ---- the lines behind the first
 bodies_stay : (vs : List VarDecl) → FaultsStay (body_of vs)
 unfolding body_of
-bodies_stay vs [] more close e is = stays_first (record_values vs [] None) (body_of vs more close) _ (λ b. Ok b) e (λ d h. absurd (no_fault (record_values vs [] None) d (values_ok vs) h)) (λ xs h. cc h) is
+bodies_stay vs [] more close e is = absurd (no_fault (record_values vs [] None) e (values_ok vs) is)
 bodies_stay vs (l ∷ ls) more close e is = by (is_nonce_line l) is
   where
     behind : (ls : List Line) → from_nonce vs ls None ≡ Err e → from_nonce vs (ls ++ more) close ≡ Err e
