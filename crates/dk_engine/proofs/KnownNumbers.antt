@@ -1,32 +1,30 @@
 -- What a sample tells of which the facts are true, and the bounds, comparisons and lines that it doesn't change then.
-use Rattle.std.specs.Prelude.{◌≡◌, ◌≤◌, ◌^◌, ◌&&◌, ◌||◌, ◌==◌, ◌+ℤ◌, ◌*ℤ◌, ℕ, ℤ, pos, negsuc, neg_ℤ, Bool, true, false, List, [], ◌∷◌, None, int_le, nat_le, refl, unsigned_abs}
+use Rattle.std.specs.Prelude.{◌≡◌, ◌≤◌, ◌^◌, ◌&&◌, ◌||◌, ◌==◌, ℕ, ℤ, neg_ℤ, Bool, true, false, List, [], ◌∷◌, None, int_le, nat_le, refl, unsigned_abs}
 use Rattle.std.specs.List.{list_all}
 use Rattle.std.proofs.Common.{◌∙◌, ap, arith, inl, inr, subst, sym}
 use Rattle.std.specs.Ordering.{int_eq}
-use Rattle.std.proofs.lemmas.Bool.{and_from, and_parts, cases_Bool, eqb-true, false≢true, le-leb, leb-true, or_cases}
+use Rattle.std.proofs.lemmas.Bool.{and_parts, cases_Bool, eqb-true, false≢true, or_cases}
 use Rattle.std.proofs.lemmas.Bool.Decides.{Decides-int_eq}
 use Rattle.std.proofs.lemmas.Int.{ints}
-use Rattle.dk_arith.proofs.Ring.{rep, rep-add, rep-mul, rep-neg, same_rep}
 use Rattle.dk_base.specs.Tuples.{int_of, value_at}
 use Rattle.dk_base.specs.declared.kinds.VarId.{VarId}
 use Rattle.dk_base.specs.declared.values.Value.{Value}
 use Rattle.dk_base.specs.declared.values.Value.TheVariants as value
 use Rattle.dk_fits.specs.Fits.{is_whole, tuple_in}
 use Rattle.dk_forms.specs.declared.states.State.{State}
-use Rattle.dk_forms.proofs.LineStays.{straight_stays}
-use Rattle.dk_forms.specs.Line.{in_limit, is_on, line_join, line_of}
-use Rattle.dk_forms.specs.declared.states.State.TheVariants.{Greatest, Holds, Least, Straight}
+use Rattle.dk_forms.specs.Line.{line_join, line_of}
+use Rattle.dk_forms.specs.declared.states.State.TheVariants.{Greatest, Holds, Least}
 use Rattle.dk_rows.specs.Meanings.{meanings, state_of}
 use Rattle.dk_template.specs.Templates.{form_of, rows}
 use Rattle.dk_template.specs.declared.templates.StateForm.TheVariants as form
 use Rattle.dk_samples.specs.Samples.{is_present, value_in}
 use Rattle.dk_engine.proofs.Bounding.{compared_slot, compared_so, greatest_kept, least_kept, lower_slot, of_missing, slot_of_missing}
 use Rattle.dk_engine.proofs.Ascending.{ordered_so}
-use Rattle.dk_engine.proofs.OneTuple.{row_by, slot_by, with_tuple}
+use Rattle.dk_engine.proofs.OneTuple.{row_by, with_tuple}
 use Rattle.dk_engine.proofs.Raising.{upper_slot}
 use Rattle.dk_engine.specs.Bounding.{compares, keeps_greatest, keeps_least}
 use Rattle.dk_engine.specs.Feeding.{with_sample}
-use Rattle.dk_engine.specs.Idle.{IsIdle, are_in_order, are_near, are_rising, are_so, are_within, compares_first, compares_values, is_between, is_compared, is_from, is_idle_greatest, is_idle_least, is_known, is_listed, is_near, is_near_number, is_numeric, is_one, is_own, is_own_line, is_so, is_to, is_told, is_within, meets}
+use Rattle.dk_engine.specs.Idle.{IsIdle, are_in_order, are_near, are_rising, are_so, are_within, compares_first, compares_values, is_between, is_compared, is_from, is_idle_greatest, is_idle_least, is_known, is_listed, is_near, is_near_number, is_numeric, is_one, is_own, is_so, is_to, is_told, is_within, meets}
 use Rattle.dk_engine.specs.declared.facts.Compared.{Compared}
 use Rattle.dk_engine.specs.declared.facts.Range.{Range}
 use Rattle.dk_engine.specs.declared.idle.Watch.{Watch}
@@ -190,13 +188,6 @@ idle_comparison watch slot low high u v over holds h sample meeting =
     kept_values slot low high u v over holds sample (value_in sample u) refl so
 
 -- ---- a variable with itself
--- a number that is near is within the limit of lines
-in_line : (x : ℤ) → nat_le (unsigned_abs x) (2 ^ 30) ≡ true → in_limit (x, x) ≡ true
-in_line x near =
-    let small = leb-true (unsigned_abs x) (2 ^ 30) near in
-    let wide = le-leb (unsigned_abs x) (2 ^ 62) (omega (arith, small)) in
-    and_from (nat_le (unsigned_abs x) (2 ^ 62)) _ wide wide
-
 pub same_value : (sample : List Value) (u v : VarId) → (u.0 == v.0) ≡ true → (x : ℤ) → value_in sample u ≡ value.Int x → value_in sample v ≡ value.Int x
 same_value sample u v e x at = sym (ap (value_at sample) (eqb-true u.0 v.0 e)) ∙ at
 
@@ -236,7 +227,7 @@ idle_told watch slot low high u v over holds h sample meeting =
           (ordered_so watch.rising.items sample None (all_rising watch sample meeting) u v p.1)
     ])
 
--- the line of equal numbers
+-- ---- lines
 line_form : form_of (row_by 15) ≡ form.Line
 unfolding rows
 line_form = refl
@@ -245,7 +236,7 @@ line_point : (t : List Value) → state_of (row_by 15) (t ∷ []) ≡ line_of ((
 unfolding state_of meanings
 line_point t = refl
 
-line_sample : (u v : VarId) (sample : List Value) (x y : ℤ) → value_in sample u ≡ value.Int x → value_in sample v ≡ value.Int y
+pub line_sample : (u v : VarId) (sample : List Value) (x y : ℤ) → value_in sample u ≡ value.Int x → value_in sample v ≡ value.Int y
     → (s : State) → line_join s (line_of ((x, y) ∷ [])) ≡ with_sample (row_by 15) (u ∷ v ∷ []) sample s
 line_sample u v sample x y at_u at_v s =
     let ints : List Value = value.Int x ∷ value.Int y ∷ [] in
@@ -254,28 +245,3 @@ line_sample u v sample x y at_u at_v s =
   where
     two : (i j : Value) → i ≡ value.Int x → j ≡ value.Int y → (let l : List Value = i ∷ j ∷ [] in l) ≡ value.Int x ∷ value.Int y ∷ []
     two i j p q = cc
-
-own_on : (x : ℤ) → pos 1 *ℤ x +ℤ negsuc 0 *ℤ x ≡ neg_ℤ (pos 0)
-own_on x = same_rep (rep-add (rep-mul (rep (pos 1)) (rep x)) (rep-mul (rep (negsuc 0)) (rep x))) (rep-neg (rep (pos 0))) (omega arith)
-
-own_line_kept : (sample : List Value) (u v : VarId) (s : State) → is_own_line u v s ≡ true → (x : ℤ) → value_in sample u ≡ value.Int x → nat_le (unsigned_abs x) (2 ^ 30) ≡ true
-    → with_sample (row_by 15) (u ∷ v ∷ []) sample s ≡ s
-own_line_kept sample u v (Straight a b c) h x at near =
-    let p = and_parts (u.0 == v.0) (int_eq a (pos 1) && (int_eq b (negsuc 0) && int_eq c (pos 0))) h in
-    let q = and_parts (int_eq a (pos 1)) (int_eq b (negsuc 0) && int_eq c (pos 0)) p.1 in
-    let r = and_parts (int_eq b (negsuc 0)) (int_eq c (pos 0)) q.1 in
-    let ea : a ≡ pos 1 = (Decides-int_eq a (pos 1)).0 q.0 in
-    let eb : b ≡ negsuc 0 = (Decides-int_eq b (negsuc 0)).0 r.0 in
-    let ec : c ≡ pos 0 = (Decides-int_eq c (pos 0)).0 r.1 in
-    let sum : a *ℤ x +ℤ b *ℤ x ≡ neg_ℤ c = ap (λ t. t *ℤ x +ℤ b *ℤ x) ea ∙ (ap (λ t. pos 1 *ℤ x +ℤ t *ℤ x) eb ∙ (own_on x ∙ ap neg_ℤ (sym ec))) in
-    let on : is_on (a, b, c) (x, x) ≡ true = (Decides-int_eq (a *ℤ x +ℤ b *ℤ x) (neg_ℤ c)).1 sum in
-    let stays = (straight_stays a b c x x).0 (and_from (in_limit (x, x)) _ (in_line x near) on) in
-    sym (line_sample u v sample x x at (same_value sample u v p.0 x at) (Straight a b c)) ∙ stays
-own_line_kept sample u v _ h x at near = absurd (false≢true h)
-
-pub idle_line : (watch : Watch) (slot : Slot) → slot.row.0 ≡ 15 → (u v : VarId) → slot.leaders ≡ u ∷ v ∷ [] → is_own_line u v slot.state ≡ true
-    → is_near watch.ranges.items u ≡ true → IsIdle watch slot
-idle_line watch slot e u v over h near sample meeting =
-    by_near watch.ranges.items sample (all_within watch sample meeting) u near (with_sample slot.row slot.leaders sample slot.state ≡ slot.state)
-    (λ at. slot_of_missing slot sample u (v ∷ []) over at)
-    (λ x at small. slot_by slot 15 e (u ∷ v ∷ []) over sample ∙ own_line_kept sample u v slot.state h x at small)

@@ -4,7 +4,7 @@ use Rattle.std.specs.Prelude.{◌≡◌, ◌≢◌, ◌<◌, ◌≤◌, ◌+◌,
 use Rattle.std.specs.List.{list_all, list_any}
 use Rattle.std.specs.Ordering.{int_eq}
 use Rattle.std.proofs.Common.{◌∙◌, ap, arith, inl, inr, subst, sym}
-use Rattle.std.proofs.lemmas.Bool.{and_from, and_parts, cases_Bool, cases_eq, eqb-true, false≢true, lt-ltb, ltb-false, or_parts, true≢false}
+use Rattle.std.proofs.lemmas.Bool.{and_from, and_parts, cases_Bool, cases_eq, eqb-true, false≢true, le-leb, leb-true, lt-ltb, ltb-false, or_parts, true≢false}
 use Rattle.std.proofs.lemmas.Bool.Decides.{Decides-int_eq}
 use Rattle.std.proofs.lemmas.List.{get_or-set_other, get_or-set_same, length-replicate, length-set}
 use Rattle.dk_arith.proofs.Ring.{rep, rep-add, rep-mul, rep-neg, same_rep}
@@ -13,20 +13,23 @@ use Rattle.dk_base.specs.declared.kinds.VarId.{VarId}
 use Rattle.dk_base.specs.declared.values.Value.{Value}
 use Rattle.dk_base.specs.declared.values.Value.TheVariants as value
 use Rattle.dk_fits.specs.Fits.{is_whole, tuple_in}
+use Rattle.dk_forms.proofs.LineStays.{straight_stays}
 use Rattle.dk_forms.proofs.PlaneStays.{plane_stays}
+use Rattle.dk_forms.specs.Line.{in_limit, is_on}
 use Rattle.dk_forms.specs.Plane.{in_space, is_in_plane}
 use Rattle.dk_forms.specs.declared.states.State.{State}
-use Rattle.dk_forms.specs.declared.states.State.TheVariants.{Plane}
+use Rattle.dk_forms.specs.declared.states.State.TheVariants.{Plane, Straight}
 use Rattle.dk_rows.specs.Meanings.{state_of}
 use Rattle.dk_samples.specs.Samples.{is_present, value_in}
 use Rattle.dk_template.specs.Joins.{joined}
 use Rattle.dk_template.specs.Templates.{form_of}
 use Rattle.dk_ternary.specs.Rows.{linear_ternary_row}
-use Rattle.dk_engine.proofs.KnownNumbers.{all_within, listed_number, near_at}
-use Rattle.dk_engine.proofs.OneTuple.{slot_by}
+use Rattle.dk_engine.proofs.Bounding.{of_missing}
+use Rattle.dk_engine.proofs.KnownNumbers.{all_within, line_sample, listed_number, near_at}
+use Rattle.dk_engine.proofs.OneTuple.{row_by, slot_by}
 use Rattle.dk_engine.proofs.Stretches.{planar_sample}
 use Rattle.dk_engine.specs.Feeding.{with_sample}
-use Rattle.dk_engine.specs.Idle.{AreNotes, AreSkips, IsIdle, PassesStill, are_fixed, are_near_each, are_same, are_within, is_axis, is_diagonal, is_fixed, is_idle_over, is_listed, is_near, is_passed, later, meets, skip_in}
+use Rattle.dk_engine.specs.Idle.{AreNotes, AreSkips, IsIdle, PassesStill, are_fixed, are_near_each, are_same, are_within, is_axis, is_diagonal, is_fixed, is_idle_over, is_idle_straight, is_listed, is_near, is_passed, later, meets, skip_in}
 use Rattle.dk_engine.specs.Narrow.{change_by, with_change, with_growth, with_state}
 use Rattle.dk_engine.specs.Parts.{no_slot, slot_in}
 use Rattle.dk_engine.specs.declared.changes.Change.{Change}
@@ -181,6 +184,48 @@ pub idle_slot : (watch : Watch) (slot : Slot) → slot.row.0 ≡ 67 → (u v w :
     → is_idle_over watch.ranges.items u v w slot.state ≡ true → are_near_each watch.ranges.items u v w ≡ true → IsIdle watch slot
 idle_slot watch slot e u v w over h near sample meeting =
     slot_by slot 67 e (u ∷ v ∷ w ∷ []) over sample ∙ idle_plane watch.ranges.items u v w slot.state h near sample (all_within watch sample meeting)
+
+-- ---- lines that are idle
+-- numbers that are near are within the limit of lines
+near_in_limit : (x y : ℤ) → nat_le (unsigned_abs x) (2 ^ 30) ≡ true → nat_le (unsigned_abs y) (2 ^ 30) ≡ true → in_limit (x, y) ≡ true
+near_in_limit x y near_x near_y = and_from (nat_le (unsigned_abs x) (2 ^ 62)) _ (wide x near_x) (wide y near_y)
+  where
+    wide : (z : ℤ) → nat_le (unsigned_abs z) (2 ^ 30) ≡ true → nat_le (unsigned_abs z) (2 ^ 62) ≡ true
+    wide z near = let small = leb-true (unsigned_abs z) (2 ^ 30) near in le-leb (unsigned_abs z) (2 ^ 62) (omega (arith, small))
+
+free_third : (a b x y z : ℤ) → a *ℤ x +ℤ b *ℤ y +ℤ pos 0 *ℤ z ≡ a *ℤ x +ℤ b *ℤ y
+free_third a b x y z =
+    same_rep (rep-add (rep-add (rep-mul (rep a) (rep x)) (rep-mul (rep b) (rep y))) (rep-mul (rep (pos 0)) (rep z))) (rep-add (rep-mul (rep a) (rep x)) (rep-mul (rep b) (rep y))) (omega arith)
+
+-- a point on the line, where the plane has it
+on_line : (a b c x y z : ℤ) → is_in_plane (a, b, pos 0, c) (x, y, z) ≡ true → is_on (a, b, c) (x, y) ≡ true
+on_line a b c x y z h =
+    (Decides-int_eq (a *ℤ x +ℤ b *ℤ y) (neg_ℤ c)).1
+    (sym (free_third a b x y z) ∙ (Decides-int_eq (a *ℤ x +ℤ b *ℤ y +ℤ pos 0 *ℤ z) (neg_ℤ c)).0 h)
+
+straight_kept : (ranges : List Range) (u v : VarId) (state : State) → is_idle_straight ranges u v state ≡ true → is_near ranges u ≡ true → is_near ranges v ≡ true
+    → (sample : List Value) → are_within sample ranges ≡ true → with_sample (row_by 15) (u ∷ v ∷ []) sample state ≡ state
+straight_kept ranges u v (Straight a b c) h near_u near_v sample within =
+    let s = Straight a b c in
+    elim (cases_Bool (is_whole (tuple_in (u ∷ v ∷ []) sample))) as (λ _. with_sample (row_by 15) (u ∷ v ∷ []) sample s ≡ s) [
+      | inr f ↦ of_missing (row_by 15) (u ∷ v ∷ []) sample s f
+      | inl whole ↦
+          let p1 = and_parts (is_present (value_in sample u)) (list_all is_present (value_in sample v ∷ [])) whole in
+          let p2 = and_parts (is_present (value_in sample v)) true p1.1 in
+          let x = near_at ranges sample within u near_u p1.0 in
+          let y = near_at ranges sample within v near_v p2.0 in
+          let on = on_line a b c x.0 y.0 y.0 (lies_in ranges u v v a b (pos 0) c h sample within x.0 y.0 y.0 x.1 y.1 y.1) in
+          let stays = (straight_stays a b c x.0 y.0).0 (and_from (in_limit (x.0, y.0)) _ (near_in_limit x.0 y.0 x.2 y.2) on) in
+          sym (line_sample u v sample x.0 y.0 x.1 y.1 s) ∙ stays
+    ]
+straight_kept ranges u v _ h near_u near_v sample within = absurd (false≢true h)
+
+pub idle_line : (watch : Watch) (slot : Slot) → slot.row.0 ≡ 15 → (u v : VarId) → slot.leaders ≡ u ∷ v ∷ []
+    → is_idle_straight watch.ranges.items u v slot.state ≡ true → are_near_each watch.ranges.items u v v ≡ true → IsIdle watch slot
+idle_line watch slot e u v over h near sample meeting =
+    let near1 = and_parts (is_near watch.ranges.items u) (is_near watch.ranges.items v && is_near watch.ranges.items v) near in
+    let near2 = and_parts (is_near watch.ranges.items v) (is_near watch.ranges.items v) near1.1 in
+    slot_by slot 15 e (u ∷ v ∷ []) over sample ∙ straight_kept watch.ranges.items u v slot.state h near1.0 near2.0 sample (all_within watch sample meeting)
 
 -- ---- notes
 none_in : (n k : ℕ) → skip_in (replicate n 0) k ≡ 0

@@ -96,11 +96,6 @@ is_driven_stretch ranges driver first last u v w (Span x1 y1 z1 x2 y2 z2) =
     && (is_driven ranges driver first last v y1 y2 && (is_driven ranges driver first last w z1 z2 && (is_above ranges driver first && is_below ranges driver last)))
 is_driven_stretch ranges driver first last u v w _ = false
 
--- the line of equal numbers, of a variable with itself
-abbrev pub is_own_line : VarId → VarId → State → Bool
-is_own_line u v (Straight a b c) = u.0 == v.0 && (int_eq a (pos 1) && (int_eq b (negsuc 0) && int_eq c (pos 0)))
-is_own_line u v _ = false
-
 -- the plane of the points whose first two coordinates are one
 abbrev pub is_diagonal : ℤ → ℤ → ℤ → ℤ → Bool
 is_diagonal a b c d = int_eq a (pos 1) && (int_eq b (negsuc 0) && (int_eq c (pos 0) && int_eq d (pos 0)))
@@ -178,6 +173,11 @@ are_same u v w a b c d = (u.0 == v.0 && is_diagonal a b c d) || (v.0 == w.0 && i
 abbrev pub is_idle_over : List Range → VarId → VarId → VarId → State → Bool
 is_idle_over ranges u v w (Plane a b c d) = are_same u v w a b c d || are_fixed ranges u v w a b c d
 is_idle_over ranges u v w _ = false
+
+-- the same of a line through the numbers of two variables: the plane over the second one twice, of which the third coordinate is free
+abbrev pub is_idle_straight : List Range → VarId → VarId → State → Bool
+is_idle_straight ranges u v (Straight a b c) = are_same u v v a b (pos 0) c || are_fixed ranges u v v a b (pos 0) c
+is_idle_straight ranges u v _ = false
 
 -- a number is equal to itself, and at most itself
 abbrev pub is_own : ℕ → VarId → VarId → Bool

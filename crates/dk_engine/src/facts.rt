@@ -287,11 +287,11 @@ impl Ranges {
         }
     }
 
-    // With the bound that a slot says, if it is of a variable whose bounds rest.
+    // With the bound that a slot says, if it rests.
     fn add_slot(&mut self, moves: &Moves, slot: &Slot) -> Result<(), NoMemory> {
         match bounded(slot) {
             Some(v) => {
-                if moves.rests(v) {
+                if moves.rests(slot) {
                     self.add(v, &slot.state)
                 } else {
                     Ok(())
@@ -301,7 +301,7 @@ impl Ranges {
         }
     }
 
-    /// The bounds that slots say of variables whose bounds rest.
+    /// The bounds that slots say and that rest.
     pub(crate) fn of(alloc: Global, moves: &Moves, slots: &[Slot]) -> Result<Ranges, NoMemory> {
         let mut ranges = Ranges::none(alloc);
         for slot in slots {

@@ -6,7 +6,7 @@
 ghost use Rattle.std.specs.Prelude.{◌≡◌, ◌<◌, ◌≤◌, ◌+◌, ◌==◌, ◌&&◌, ◌||◌, ◌∷◌, [], true, IfOk, IsTrue, length, replicate, slice_set};
 ghost use Rattle.std.specs.Ordering.{int_eq};
 ghost use Rattle.dk_base.specs.Values.{values_of};
-ghost use Rattle.dk_engine.specs.Idle.{AreNotes, AreSkips, IsIdle, are_fixed, are_near_each, are_same, is_above, is_axis, is_below, is_compared, is_diagonal, is_driven, is_driven_stretch, is_fixed, is_idle_greatest, is_idle_least, is_idle_over, is_near, is_near_number, is_own_line, is_passed, is_told, later, meets, skip_in};
+ghost use Rattle.dk_engine.specs.Idle.{AreNotes, AreSkips, IsIdle, are_fixed, are_near_each, are_same, is_above, is_axis, is_below, is_compared, is_diagonal, is_driven, is_driven_stretch, is_fixed, is_idle_greatest, is_idle_least, is_idle_over, is_idle_straight, is_near, is_near_number, is_passed, is_told, later, meets, skip_in};
 
 use crate::Slot;
 use crate::chain::{Chain, are_rising};
@@ -315,12 +315,13 @@ fn is_idle_stretch(
     }
 }
 
-// Whether a state is the line of equal numbers, over one variable.
-fn is_own_line(u: VarId, v: VarId, state: &State) -> bool
-    ensures { result ≡ is_own_line u v state.now }
+// Whether a line through the numbers of two variables is seen to say no more than that they are one, or than that one of them has its
+// number: so does the plane over the second one twice, of which the third coordinate is free.
+fn is_idle_straight(ranges: &[Range], places: &[usize], u: VarId, v: VarId, state: &State) -> bool
+    ensures { IsTrue result → is_idle_straight ranges.now u v state.now ≡ true }
 {
     match state {
-        State::Straight { a, b, c } => u.0 == v.0 && (*a == 1 && (*b == -1 && *c == 0)),
+        State::Straight { a, b, c } => is_idle_plane(ranges, places, u, v, v, *a, *b, 0, *c),
         _ => false,
     }
 }
@@ -331,8 +332,13 @@ fn is_idle_line(watch: &Watch, places: &Places, slot: &Slot, u: VarId, v: VarId)
     requires leaders { slot.now.leaders ≡ u ∷ v ∷ [] }
     ensures { IsTrue result → IsIdle watch.now slot.now }
 {
-    is_own_line(u, v, &slot.state)
-        && is_known_near(watch.ranges.as_slice(), places.ranges.as_slice(), u)
+    is_idle_straight(
+        watch.ranges.as_slice(),
+        places.ranges.as_slice(),
+        u,
+        v,
+        &slot.state,
+    ) && are_near_each(watch.ranges.as_slice(), places.ranges.as_slice(), u, v, v)
 }
 
 // Whether a slot of row 67 over three leaders is seen to be idle.

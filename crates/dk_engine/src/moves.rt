@@ -11,7 +11,7 @@ const FIRST: u64 = 4;
 // How many come before bounds are. Each time that the samples are twice as many, bounds that moved are noted once more.
 const BOUNDS: u64 = 1024;
 
-/// How many samples slots have taken since they were put together, and which variables had a bound that moved lately.
+/// How many samples slots have taken since they were put together, and which bounds moved lately, by their numbers.
 #[derive(Drop)]
 pub(crate) struct Moves {
     samples: u64,
@@ -27,6 +27,21 @@ pub(crate) fn bounded(slot: &Slot) -> Option<VarId> {
     match slot.leaders.as_slice() {
         [v] => Some(*v),
         _ => None,
+    }
+}
+
+// The number of the bound that a slot says: a variable's least value comes before its greatest one.
+fn number_of(slot: &Slot) -> Option<usize> {
+    match bounded(slot) {
+        Some(v) => {
+            let least = (v.0 as usize).wrapping_mul(2);
+            Some(if slot.row.0 == 2 {
+                least
+            } else {
+                least.wrapping_add(1)
+            })
+        }
+        None => None,
     }
 }
 
@@ -61,15 +76,17 @@ impl Moves {
         FIRST <= self.samples
     }
 
-    /// Whether a variable's bounds are noted.
-    pub(crate) fn rests(&self, v: VarId) -> bool {
-        BOUNDS <= self.samples && !matches!(self.moved.get(v.0 as usize), Some(true))
+    /// Whether the bound that a slot says is noted.
+    pub(crate) fn rests(&self, slot: &Slot) -> bool {
+        match number_of(slot) {
+            Some(number) => BOUNDS <= self.samples && !matches!(self.moved.get(number), Some(true)),
+            None => false,
+        }
     }
 
-    // A bound of a variable moved.
-    fn note(&mut self, v: VarId) -> Result<(), NoMemory> {
-        let number = v.0 as usize;
-        for _ in self.moved.len()..number + 1 {
+    // The bound of this number moved.
+    fn note(&mut self, number: usize) -> Result<(), NoMemory> {
+        for _ in self.moved.len()..number.saturating_add(1) {
             self.moved.push(false)?;
         }
         if let Some(moved) = self.moved.get_mut(number) {
@@ -80,8 +97,8 @@ impl Moves {
 
     // If the slot says a bound, it moved.
     fn note_slot(&mut self, slot: &Slot) -> Result<(), NoMemory> {
-        match bounded(slot) {
-            Some(v) => self.note(v),
+        match number_of(slot) {
+            Some(number) => self.note(number),
             None => Ok(()),
         }
     }
