@@ -1,5 +1,5 @@
 -- Rows whose cells fit their columns.
-use Rattle.std.proofs.Common.{◌≡◌, ◌∙◌, ◌&&◌, ◌∷◌, ◌++◌, [], ℕ, Bool, true, List, None, is_some, map, refl, sym, ap}
+use Rattle.std.proofs.Common.{◌≡◌, ◌∙◌, ◌&&◌, ◌∷◌, ◌++◌, [], ℕ, Bool, true, List, None, is_some, length, map, refl, sym, ap, arith}
 use Rattle.std.specs.Prelude.{not}
 use Rattle.std.specs.List.{list_all, zip}
 use Rattle.std.proofs.lemmas.Bool.{and_parts, not-false}
@@ -61,6 +61,16 @@ told_fit d kinds (row ∷ rows) e =
     let first : is_told kinds row ≡ true = not-false (is_told kinds row) found.0 in
     ap (λ (b : Bool). b && all_fit (form_of d kinds) rows) (headed d.vars kinds row.cells first) ∙ told_fit d kinds rows found.1
 
--- one row whose cells are told fits
-pub row_fit : (d : PointDecl) (kinds : List ColumnKind) (form : Form) (row : Placed) → form ≡ form_of d kinds → is_told kinds row ≡ true → row_fits form row ≡ true
-row_fit d kinds form row is told = ap (λ (f : Form). row_fits f row) is ∙ headed d.vars kinds row.cells told
+-- ---- one row, where each kind has a variable
+headed_same : (vars : List VarDecl) (kinds : List ColumnKind) (cells : List (List ℕ)) → length vars ≡ length kinds
+    → list_all fits (zip (map heading_of (zip vars kinds)) cells) ≡ list_all tells (zip kinds cells)
+headed_same [] [] cells same = refl
+headed_same [] (k ∷ ks) cells same = absurd (omega (arith, same))
+headed_same (v ∷ vs) [] cells same = absurd (omega (arith, same))
+headed_same (v ∷ vs) (k ∷ ks) [] same = refl
+headed_same (v ∷ vs) (k ∷ ks) (c ∷ cs) same = ap (λ (b : Bool). tells (k, c) && b) (headed_same vs ks cs (omega (arith, same)))
+
+-- its cells fit their columns where they are told
+pub row_fits_told : (d : PointDecl) (kinds : List ColumnKind) (form : Form) (row : Placed) (b : Bool) → length d.vars ≡ length kinds → form ≡ form_of d kinds
+    → row_fits form row ≡ b → is_told kinds row ≡ b
+row_fits_told d kinds form row b same is fit = sym (ap (λ (f : Form). row_fits f row) is ∙ headed_same d.vars kinds row.cells same) ∙ fit

@@ -8,10 +8,10 @@ pub mod Pieces
 pub mod Formed
 pub mod Bodies
 pub mod Plain
-pub mod Truths
 pub mod Spelled
 pub mod Few
-pub mod Lined
+pub mod Pushed
+pub mod Rowed
 pub mod Taking
 pub mod Contents
 pub mod Files

@@ -49,17 +49,14 @@ pub zip_all : {A B C : Type 0} (f : A × B → C) (xs : List A) (ys : List B) (i
 zip_all f xs ys i all past is = is ∙ ap (map f) (take_all i (zip xs ys) (omega (arith, zip_length xs ys)))
 
 -- the text of one pair more
-pub zip_text_more : {A B : Type 0} (f : A × B → List ℕ) (xs : List A) (ys : List B) (i : ℕ) (x : A) (y : B) (start text next : List ℕ)
-    → i < length xs → i < length ys → x ≡ get_or xs i x → y ≡ get_or ys i y → text ≡ start ++ flat_map f (take i (zip xs ys)) → next ≡ text ++ f (x, y)
-    → next ≡ start ++ flat_map f (take (i + 1) (zip xs ys))
-zip_text_more {A} {B} f xs ys i x y start text next lt more first second is added =
+pub zip_text : {A B : Type 0} (f : A × B → List ℕ) (xs : List A) (ys : List B) (i : ℕ) (x : A) (y : B)
+    → i < length xs → i < length ys → x ≡ get_or xs i x → y ≡ get_or ys i y → flat_map f (take i (zip xs ys)) ++ f (x, y) ≡ flat_map f (take (i + 1) (zip xs ys))
+zip_text {A} {B} f xs ys i x y lt more first second =
     let front : List (A × B) = take i (zip xs ys) in
     let within : i < length (zip xs ys) = omega (arith, zip_length xs ys) in
     let one : take (i + 1) (zip xs ys) ≡ front ++ (x, y) ∷ [] =
     take_more (zip xs ys) i (x, y) within ∙ ap (λ (p : A × B). front ++ p ∷ []) (zip_get xs ys i x y lt more first second) in
-    added ∙ ap (λ (l : List ℕ). l ++ f (x, y)) is ∙ append_assoc start (flat_map f front) (f (x, y))
-    ∙ ap (λ (l : List ℕ). start ++ (flat_map f front ++ l)) (sym (append-nil (f (x, y))))
-    ∙ ap (λ (l : List ℕ). start ++ l) (sym (ap (flat_map f) one ∙ flat_map-append f front ((x, y) ∷ [])))
+    ap (λ (l : List ℕ). flat_map f front ++ l) (sym (append-nil (f (x, y)))) ∙ sym (ap (flat_map f) one ∙ flat_map-append f front ((x, y) ∷ []))
 
 pub zip_text_all : {A B : Type 0} (f : A × B → List ℕ) (xs : List A) (ys : List B) (i : ℕ) (start text : List ℕ) → min (length xs) (length ys) ≤ i
     → text ≡ start ++ flat_map f (take i (zip xs ys)) → text ≡ start ++ flat_map f (zip xs ys)

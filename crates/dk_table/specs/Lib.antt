@@ -20,6 +20,7 @@ pub mod Outcomes
 pub mod Pieces
 pub mod Placed
 pub mod Progress
+pub mod Pushing
 pub mod Sources
 pub mod Stages
 pub mod Stops

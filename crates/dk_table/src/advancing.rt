@@ -105,6 +105,10 @@ pub(crate) fn begin_body<S: Sinks>(
 {
     let kinds = front.judge.kinds(alloc)?;
     let decl = declaration_of(alloc, task.point, front.names.as_slice(), kinds.as_slice())?;
+    if decl.vars.len() != kinds.len() {
+        // A column was begun for each name, so this never is.
+        return Err(Stop::NoMemory);
+    }
     if !are_named(alloc, &decl)? {
         return Err(Stop::Refused(Refusal {
             file: 0,

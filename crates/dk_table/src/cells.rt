@@ -8,7 +8,7 @@ ghost use Rattle.dk_table.specs.Cells.{decimal_of, dot_of, is_dot, is_front, is_
 use dk_base::{NoMemory, parse_integer, same_bytes};
 
 /// So many digits always write a number within 64 bits.
-const SURE: usize = 18;
+pub(crate) const SURE: usize = 18;
 
 /// A spelling of the two truth values.
 #[derive(Clone, Copy, Debug, PartialEq, Eq)]
@@ -100,14 +100,6 @@ pub(crate) fn truth(words: TruthWords, cell: &[u8]) -> Option<bool>
     }
 }
 
-/// Whether the truth value that the cell writes in this spelling is the true one, which its length tells.
-pub(crate) fn is_yes(words: TruthWords, cell: &[u8]) -> bool
-    requires { is_some (truth words cell.now) ≡ true }
-    ensures { truth words cell.now ≡ Some result }
-{
-    cell.len() == yes(words).len()
-}
-
 // Whether the bytes in front of a dot are a whole number as it is printed, or `-0`.
 #[tactic(auto, unfolding(crate::specs::Cells::is_front))]
 fn is_front(front: &[u8]) -> bool
@@ -125,9 +117,9 @@ fn is_dot(cell: &[u8], dot: usize) -> bool
     cell[dot] == b'.' && is_front(&cell[..dot]) && are_digits(&cell[dot + 1..])
 }
 
-// Where the dot of a decimal with so many places stands.
+/// Where the dot of a decimal with so many places stands.
 #[tactic(auto, unfolding(crate::specs::Cells::dot_of))]
-fn dot_of(places: usize, cell: &[u8]) -> Option<usize>
+pub(crate) fn dot_of(places: usize, cell: &[u8]) -> Option<usize>
     ensures dot { result ≡ dot_of places cell.now }
     ensures within { IfSome result (λ dot. dot < length cell.now) }
 {
@@ -168,15 +160,6 @@ pub(crate) fn is_decimal(places: u32, cell: &[u8], digits: &mut Vec<u8>) -> Resu
         return Ok(decimal(places, cell, digits)?.is_some());
     }
     Ok(dot_of(places as usize, cell).is_some())
-}
-
-/// Where the dot of the decimal with so many places stands that the cell writes.
-pub(crate) fn dot_in(places: u32, cell: &[u8]) -> usize
-    requires { is_some (decimal_of places cell.now) ≡ true }
-    ensures dot { dot_of places cell.now ≡ Some result }
-    ensures within { result < length cell.now }
-{
-    cell.len() - places as usize - 1
 }
 
 /// Whether neither `0` leads nor a minus and `0`. Where none does, no zero leads with more digits behind.

@@ -12,8 +12,7 @@ use crate::held::Chunk;
 use crate::rows::Rows;
 use crate::stages::Body;
 use crate::stops::Stop;
-use crate::traces::is_told;
-use crate::writing::{Gathered, tell_row, write_gathered};
+use crate::writing::{Gathered, push_row, write_gathered, write_long};
 use dk_io::Sinks;
 use std::alloc::Global;
 
@@ -27,14 +26,14 @@ fn tell_fitting<S: Sinks>(
     ensures { let steps = told_steps body.now.plan.kinds (Ok rows.now.row ∷ []) in
         Gathers (gathered.old.text.items ++ rows_text body.now.form (rows_before steps)) (first_refusal steps) gathered.new.text.items (S.written sinks.old) (S.written sinks.new) (S.faults sinks.old) (S.faults sinks.new) result }
 {
-    if !is_told(body.plan.kinds.as_slice(), rows, &mut gathered.digits)? {
+    if !push_row(gathered, &body.form, rows)? {
         return Err(Stop::Refused(Refusal {
             file: rows.file(),
             row: rows.number(),
             why: TableWhy::BadCell,
         }));
     }
-    tell_row(gathered, &body.form, rows, sinks)?;
+    write_long(gathered, sinks)?;
     Ok(())
 }
 

@@ -1,5 +1,5 @@
 // What is known of the columns while rows come.
-ghost use Rattle.std.specs.Prelude.{◌≡◌};
+ghost use Rattle.std.specs.Prelude.{◌≡◌, length};
 ghost use Rattle.dk_table.specs.Forms.{form_of};
 
 use crate::columns::ColumnKind;
@@ -24,6 +24,7 @@ pub(crate) struct Body {
     pub(crate) plan: Plan,
     pub(crate) form: Form,
     ghost formed: { form ≡ form_of plan.decl plan.kinds },
+    ghost paired: { length plan.decl.vars ≡ length plan.kinds },
 }
 
 /// What is known of the columns.

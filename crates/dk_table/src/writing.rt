@@ -1,20 +1,22 @@
 // Writing the trace of tables.
-ghost use Rattle.std.specs.Prelude.{◌≡◌, ◌++◌, ◌∷◌, [], IfOk, None, OnOk, flat_map, is_some, map, true};
-ghost use Rattle.std.specs.List.{list_all, zip};
+ghost use Rattle.std.specs.Prelude.{◌≡◌, ◌≤◌, ◌<◌, ◌+◌, ◌++◌, ◌∷◌, [], IfOk, None, OnOk, flat_map, length, map, min, take, true};
+ghost use Rattle.std.specs.List.{zip};
 ghost use Rattle.dk_base.specs.Names.{escaped};
 ghost use Rattle.dk_io.specs.declared.outside.Stream.TheVariants as stream;
 ghost use Rattle.dk_lines.specs.Passing.{joined};
 ghost use Rattle.dk_write.specs.Texts.{Begins, Declares, block_text, trace_text};
-ghost use Rattle.dk_table.specs.Columns.{cell_value};
-ghost use Rattle.dk_table.specs.Forms.{all_fit, cell_lines, form_of, heading_of, row_fits, row_text, rows_text};
+ghost use Rattle.dk_table.specs.Forms.{IsFormed, all_fit, cell_lines, form_of, heading_of, line_at, row_fits, row_text, rows_text, tail_of, tails_of};
+ghost use Rattle.dk_table.specs.Pushing.{AddsRow, GathersRow};
 ghost use Rattle.dk_table.specs.Tables.{bodies_in};
 ghost use Rattle.dk_table.specs.Traces.{IsPlan, plan_writes, untold_row};
 ghost use Rattle.dk_table.specs.Writing.{EndsCut, Tells, TellsFront, status_of};
 
-use crate::columns::{ColumnKind, push_cell};
+use crate::columns::ColumnKind;
 use crate::command::Command;
 use crate::file_bytes::FileBytes;
+use crate::pushing::push_cell;
 use crate::rows::Rows;
+use crate::tails::Tail;
 use crate::traces::Plan;
 use dk_base::{List, NoMemory, Text};
 use dk_decl::{PointDecl, VarDecl};
@@ -62,11 +64,14 @@ pub(crate) struct Heading {
     kind: ColumnKind,
 }
 
-/// What the records of a trace have in common: the line of the point's name, and the columns.
+/// What the records of a trace have in common: the line of the point's name, the columns, what stands behind the value of each column but the
+/// last in its record, and behind that of the last.
 #[derive(Drop)]
 pub(crate) struct Form {
     point: Text,
     headings: List<Heading>,
+    tails: List<Tail>,
+    last: Tail,
 }
 
 // The line of a name.
@@ -102,6 +107,26 @@ fn headings_of(
     Ok(headings)
 }
 
+// The tails of values that the lines of these names follow.
+fn tails_before(alloc: Global, headings: &[Heading]) -> Result<List<Tail>, NoMemory>
+    ensures { IfOk result (λ tails. tails ≡ map (λ h. tail_of h.line) headings.now) }
+{
+    let mut tails = List::new(alloc);
+    for heading in headings {
+        tails.push(Tail::new(alloc, heading.line.as_slice())?)?;
+    }
+    Ok(tails)
+}
+
+fn tails_of(alloc: Global, headings: &[Heading]) -> Result<List<Tail>, NoMemory>
+    ensures { IfOk result (λ tails. tails ≡ tails_of headings.now) }
+{
+    match headings {
+        [] => Ok(List::new(alloc)),
+        [_, behind @ ..] => tails_before(alloc, behind),
+    }
+}
+
 pub(crate) fn form_of(
     alloc: Global,
     decl: &PointDecl,
@@ -109,17 +134,21 @@ pub(crate) fn form_of(
 ) -> Result<Form, NoMemory>
     ensures { IfOk result (λ form. form ≡ form_of decl.now kinds.now) }
 {
+    let headings = headings_of(alloc, decl.vars.as_slice(), kinds)?;
+    let tails = tails_of(alloc, headings.as_slice())?;
     Ok(Form {
         point: name_line(alloc, decl.name.as_slice())?,
-        headings: headings_of(alloc, decl.vars.as_slice(), kinds)?,
+        headings,
+        tails,
+        last: Tail::new(alloc, b"")?,
     })
 }
 
 /// Rows that are not written yet, and what is used again for each cell.
 #[derive(Drop)]
 pub(crate) struct Gathered {
-    text: Vec<u8>,
-    pub(crate) digits: Vec<u8>,
+    pub(crate) text: Vec<u8>,
+    digits: Vec<u8>,
 }
 
 impl Gathered {
@@ -134,43 +163,91 @@ impl Gathered {
     }
 }
 
-// The lines of a cell.
-fn push_heading_cell(
-    gathered: &mut Gathered,
-    heading: &Heading,
-    cell: &[u8],
-) -> Result<(), NoMemory>
-    requires { is_some (cell_value heading.now.kind cell.now) ≡ true }
-    ensures { OnOk result (gathered.new.text.items ≡ gathered.old.text.items ++ cell_lines (heading.now, cell.now)) }
-{
-    gathered.text.extend_from_slice(heading.line.as_slice())?;
-    push_cell(&mut gathered.text, heading.kind, cell, &mut gathered.digits)
+impl Form {
+    // How many cells of a row stand in its record.
+    fn width(&self, rows: &Rows<'_>) -> usize
+        ensures { result ≡ min (length self.now.headings) (length rows.now.row.cells) }
+    {
+        self.headings.len().min(rows.len())
+    }
+
+    // What stands behind the value at a place in a record of so many values.
+    fn tail(&self, place: usize, width: usize) -> &Tail
+        requires formed { IsFormed self.now }
+        requires within { (place < width) × (width ≤ length self.now.headings) }
+        ensures { result.now ≡ tail_of (line_at (take width self.now.headings) (place + 1)) }
+    {
+        if place + 1 < width {
+            &self.tails.as_slice()[place]
+        } else {
+            &self.last
+        }
+    }
 }
 
-// The lines of the cells of a row.
-fn push_cells(
-    gathered: &mut Gathered,
-    headings: &[Heading],
-    rows: &Rows<'_>,
-) -> Result<(), NoMemory>
-    requires { list_all (λ e. is_some (cell_value e.0.kind e.1)) (zip headings.now rows.now.row.cells) ≡ true }
-    ensures { OnOk result (gathered.new.text.items ≡ gathered.old.text.items ++ flat_map cell_lines (zip headings.now rows.now.row.cells)) }
+// The line of the name of a row's first value, where it has one.
+fn push_first(gathered: &mut Gathered, form: &Form, width: usize) -> Result<(), NoMemory>
+    requires { width ≤ length form.now.headings }
+    ensures { OnOk result (gathered.new.text.items ≡ gathered.old.text.items ++ line_at (take width form.now.headings) 0) }
 {
-    for i in 0..headings.len().min(rows.len()) {
-        push_heading_cell(gathered, &headings[i], rows.cell(i))?;
+    if width > 0 {
+        let first = &form.headings.as_slice()[0];
+        gathered.text.extend_from_slice(first.line.as_slice())?;
     }
     Ok(())
 }
 
-// The record of a row.
-fn push_row(gathered: &mut Gathered, form: &Form, rows: &Rows<'_>) -> Result<(), NoMemory>
-    requires { row_fits form.now rows.now.row ≡ true }
-    ensures { OnOk result (gathered.new.text.items ≡ gathered.old.text.items ++ row_text form.now rows.now.row) }
+// The lines of the cells of a row, where each fits its column.
+fn push_cells(gathered: &mut Gathered, form: &Form, rows: &Rows<'_>) -> Result<bool, NoMemory>
+    requires { IsFormed form.now }
+    ensures { IfOk result (AddsRow (row_fits form.now rows.now.row) (flat_map cell_lines (zip form.now.headings rows.now.row.cells)) gathered.old.text.items gathered.new.text.items) }
+{
+    let width = form.width(rows);
+    push_first(gathered, form, width)?;
+    let headings = form.headings.as_slice();
+    for i in 0..width {
+        let kind = headings[i].kind;
+        let tail = form.tail(i, width);
+        let fits = push_cell(
+            &mut gathered.text,
+            kind,
+            rows.cell(i),
+            tail,
+            &mut gathered.digits,
+        )?;
+        if !fits {
+            return Ok(false);
+        }
+    }
+    Ok(true)
+}
+
+// The record of a row, where each cell fits its column.
+fn push_whole_row(gathered: &mut Gathered, form: &Form, rows: &Rows<'_>) -> Result<bool, NoMemory>
+    requires { IsFormed form.now }
+    ensures { IfOk result (AddsRow (row_fits form.now rows.now.row) (row_text form.now rows.now.row) gathered.old.text.items gathered.new.text.items) }
 {
     gathered.text.extend_from_slice(form.point.as_slice())?;
-    push_cells(gathered, form.headings.as_slice(), rows)?;
+    let fits = push_cells(gathered, form, rows)?;
     gathered.text.push(b'\n')?;
-    Ok(())
+    Ok(fits)
+}
+
+/// Gathers the record of a row, where each cell fits its column, and answers whether it is so.
+pub(crate) fn push_row(
+    gathered: &mut Gathered,
+    form: &Form,
+    rows: &Rows<'_>,
+) -> Result<bool, NoMemory>
+    requires { IsFormed form.now }
+    ensures { IfOk result (GathersRow (row_fits form.now rows.now.row) (row_text form.now rows.now.row) gathered.old.text.items gathered.new.text.items) }
+{
+    let begin = gathered.text.len();
+    let fits = push_whole_row(gathered, form, rows)?;
+    if !fits {
+        gathered.text.truncate(begin);
+    }
+    Ok(fits)
 }
 
 /// Writes what is gathered.
@@ -187,21 +264,29 @@ pub(crate) fn write_gathered<S: Sinks>(gathered: &mut Gathered, sinks: &mut S) -
     }
 }
 
-/// Gathers the record of a row, and writes what is gathered where it is long.
-pub(crate) fn tell_row<S: Sinks>(
+/// Writes what is gathered, where it is long.
+pub(crate) fn write_long<S: Sinks>(gathered: &mut Gathered, sinks: &mut S) -> Result<(), Halt>
+    ensures { Tells gathered.old.text.items gathered.new.text.items (S.written sinks.old) (S.written sinks.new) (S.faults sinks.old) (S.faults sinks.new) result }
+{
+    if gathered.text.len() >= PIECE {
+        write_gathered(gathered, sinks)?;
+    }
+    Ok(())
+}
+
+// Gathers the record of a row, and writes what is gathered where it is long.
+fn tell_row<S: Sinks>(
     gathered: &mut Gathered,
     form: &Form,
     rows: &Rows<'_>,
     sinks: &mut S,
 ) -> Result<(), Halt>
-    requires { row_fits form.now rows.now.row ≡ true }
+    requires formed { IsFormed form.now }
+    requires fits { row_fits form.now rows.now.row ≡ true }
     ensures { Tells (gathered.old.text.items ++ row_text form.now rows.now.row) gathered.new.text.items (S.written sinks.old) (S.written sinks.new) (S.faults sinks.old) (S.faults sinks.new) result }
 {
-    push_row(gathered, form, rows)?;
-    if gathered.text.len() >= PIECE {
-        write_gathered(gathered, sinks)?;
-    }
-    Ok(())
+    let _fits = push_row(gathered, form, rows)?;
+    write_long(gathered, sinks)
 }
 
 // The same of all rows that are left.
@@ -211,7 +296,8 @@ fn tell_rows<S: Sinks>(
     rows: &mut Rows<'_>,
     sinks: &mut S,
 ) -> Result<(), Halt>
-    requires { all_fit form.now rows.old.left ≡ true }
+    requires formed { IsFormed form.now }
+    requires fit { all_fit form.now rows.old.left ≡ true }
     ensures { Tells (gathered.old.text.items ++ rows_text form.now rows.old.left) gathered.new.text.items (S.written sinks.old) (S.written sinks.new) (S.faults sinks.old) (S.faults sinks.new) result }
 {
     'rows: while rows.next()? {
@@ -229,7 +315,8 @@ fn tell_files<S: Sinks>(
     files: &[FileBytes],
     sinks: &mut S,
 ) -> Result<(), Halt>
-    requires { all_fit form.now (bodies_in command.now 0 files.now) ≡ true }
+    requires formed { IsFormed form.now }
+    requires fit { all_fit form.now (bodies_in command.now 0 files.now) ≡ true }
     ensures { Tells (gathered.old.text.items ++ rows_text form.now (bodies_in command.now 0 files.now)) gathered.new.text.items (S.written sinks.old) (S.written sinks.new) (S.faults sinks.old) (S.faults sinks.new) result }
 {
     for file in 0..files.len() {
