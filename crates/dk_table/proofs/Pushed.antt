@@ -1,20 +1,17 @@
 -- Values of cells behind a text.
-use Rattle.std.proofs.Common.{◌≡◌, ◌≤◌, ◌+◌, ◌-◌, ◌∙◌, ◌∷◌, ◌++◌, [], ℕ, ℤ, Bool, true, false, List, Option, Some, None, append_assoc, arith, codes, drop, length, length-drop, refl, sym, take, ap, subst}
+use Rattle.std.proofs.Common.{◌≡◌, ◌≤◌, ◌+◌, ◌-◌, ◌∙◌, ◌∷◌, ◌++◌, [], ℕ, ℤ, Bool, true, false, List, Option, Some, None, append_assoc, arith, codes, drop, length, length-drop, refl, sym, take, ap, subst, if◌then◌else◌}
 use Rattle.std.proofs.lemmas.List.{take_all}
 use Rattle.std.specs.Prelude.{is_some, option_and_then, option_map}
 use Rattle.dk_base.specs.Numbers.{integer_of}
-use Rattle.dk_base.specs.Pieces.{is_empty}
 use Rattle.dk_base.specs.declared.values.Value.{Value}
 use Rattle.dk_base.specs.declared.values.Value.TheVariants as value
 use Rattle.dk_base.specs.Spelling.{spelling}
 use Rattle.dk_decl.specs.Types.{is_missing}
 use Rattle.dk_lines.specs.Passing.{joined}
-use Rattle.dk_table.specs.Cells.{decimal_of, dot_of, is_shortest, quoted, truth, whole}
+use Rattle.dk_table.specs.Cells.{decimal_of, dot_of, is_shortest, whole}
 use Rattle.dk_table.specs.Columns.{cell_value, option_lines, value_lines, written_value}
 use Rattle.dk_table.specs.Forms.{cell_lines, tail_of}
 use Rattle.dk_table.specs.Pushing.{Pushes, value_with}
-use Rattle.dk_table.specs.declared.cells.TruthWords.{TruthWords}
-use Rattle.dk_table.specs.declared.columns.ColumnKind.{ColumnKind}
 use Rattle.dk_table.specs.declared.columns.ColumnKind.TheVariants as kind
 use Rattle.dk_table.specs.declared.tails.Tail.{Tail}
 use Rattle.dk_table.specs.declared.writing.Heading.{Heading}
@@ -26,22 +23,15 @@ pub to_end : (xs : List ℕ) (k : ℕ) → take (length xs - k) (drop k xs) ≡ 
 to_end xs k = take_all (length xs - k) (drop k xs) (omega (arith, length-drop k xs))
 
 -- ---- any value
-pub none_pushed : (v : Option Value) (tail : Tail) (text : List ℕ) → v ≡ None → Pushes v tail text text false
+none_pushed : (v : Option Value) (tail : Tail) (text : List ℕ) → v ≡ None → Pushes v tail text text false
 none_pushed v tail text is = subst (λ (o : Option Value). Pushes o tail text text false) (sym is) (refl, refl)
 
-pub some_pushed : (v : Option Value) (x : Value) (tail : Tail) (old new : List ℕ) → v ≡ Some x → new ≡ old ++ value_with tail x → Pushes v tail old new true
+some_pushed : (v : Option Value) (x : Value) (tail : Tail) (old new : List ℕ) → v ≡ Some x → new ≡ old ++ value_with tail x → Pushes v tail old new true
 some_pushed v x tail old new is added = subst (λ (o : Option Value). Pushes o tail old new true) (sym is) (refl, added)
 
 -- ---- whole numbers
 abbrev int : Option ℤ → Option Value
 int o = option_map (λ z. value.Int z) o
-
-pub whole_unpushed : (cell : List ℕ) (tail : Tail) (text : List ℕ) → is_some (whole cell) ≡ false → Pushes (written_value kind.Whole cell) tail text text false
-whole_unpushed cell tail text h = go (whole cell) refl h
-  where
-    go : (o : Option ℤ) → whole cell ≡ o → is_some o ≡ false → Pushes (written_value kind.Whole cell) tail text text false
-    go None is h = none_pushed (written_value kind.Whole cell) tail text (ap int is)
-    go (Some z) is h = absurd (cc h)
 
 -- a cell that writes a whole number is how it is printed
 pub whole_pushed : (cell : List ℕ) (tail : Tail) (old new : List ℕ) → is_some (whole cell) ≡ true → new ≡ old ++ (cell ++ tail.told)
@@ -54,27 +44,16 @@ whole_pushed cell tail old new h added = go (whole cell) refl h
         some_pushed (written_value kind.Whole cell) (value.Int z) tail old new (ap int is)
         (added ∙ ap (λ (l : List ℕ). old ++ (l ++ tail.told)) (sym (as_printed cell z is)))
 
--- ---- truth values
-pub truth_unpushed : (words : TruthWords) (cell : List ℕ) (tail : Tail) (text : List ℕ) → truth words cell ≡ None
-    → Pushes (written_value (kind.Truth words) cell) tail text text false
-truth_unpushed words cell tail text is =
-    none_pushed (written_value (kind.Truth words) cell) tail text (ap (λ (o : Option Bool). option_map (λ b. value.Bool b) o) is)
-
-pub truth_pushed : (words : TruthWords) (cell : List ℕ) (b : Bool) (tail : Tail) (old new : List ℕ) → truth words cell ≡ Some b
-    → new ≡ old ++ value_with tail (value.Bool b) → Pushes (written_value (kind.Truth words) cell) tail old new true
-truth_pushed words cell b tail old new is added =
-    some_pushed (written_value (kind.Truth words) cell) (value.Bool b) tail old new (ap (λ (o : Option Bool). option_map (λ t. value.Bool t) o) is) added
-
 -- ---- decimals
 pub digits_with : (old digits : List ℕ) (z : ℤ) (tail : Tail) → integer_of digits ≡ Some z → is_shortest digits ≡ true
     → old ++ (digits ++ tail.told) ≡ old ++ value_with tail (value.Int z)
 digits_with old digits z tail h short = ap (λ (l : List ℕ). old ++ (l ++ tail.told)) (sym (shortest_is digits z h short))
 
-pub decimal_unpushed : (places : ℕ) (cell : List ℕ) (tail : Tail) (text : List ℕ) → decimal_of places cell ≡ None
+decimal_unpushed : (places : ℕ) (cell : List ℕ) (tail : Tail) (text : List ℕ) → decimal_of places cell ≡ None
     → Pushes (written_value (kind.Decimal places) cell) tail text text false
 decimal_unpushed places cell tail text is = none_pushed (written_value (kind.Decimal places) cell) tail text (ap int is)
 
-pub decimal_pushed : (places : ℕ) (cell : List ℕ) (z : ℤ) (tail : Tail) (old new : List ℕ) → decimal_of places cell ≡ Some z
+decimal_pushed : (places : ℕ) (cell : List ℕ) (z : ℤ) (tail : Tail) (old new : List ℕ) → decimal_of places cell ≡ Some z
     → new ≡ old ++ value_with tail (value.Int z) → Pushes (written_value (kind.Decimal places) cell) tail old new true
 decimal_pushed places cell z tail old new is added = some_pushed (written_value (kind.Decimal places) cell) (value.Int z) tail old new (ap int is) added
 
@@ -101,21 +80,6 @@ joined_pushed places cell front back dot tail old new at few in_front behind sho
     go None is h = absurd (cc h)
     go (Some z) is h =
         decimal_pushed places cell z tail old new is (added ∙ digits_with old (front ++ back) z tail (digits ∙ is) short)
-
--- ---- texts, and missing values
-pub text_pushed : (cell : List ℕ) (tail : Tail) (old new : List ℕ) → new ≡ old ++ value_with tail (value.Str (quoted cell))
-    → Pushes (written_value kind.Text cell) tail old new true
-text_pushed cell tail old new added = (refl, added)
-
-pub missing_pushed : (k : ColumnKind) (cell : List ℕ) (tail : Tail) (old new : List ℕ) → is_empty cell ≡ true → new ≡ old ++ tail.untold
-    → Pushes (cell_value k cell) tail old new true
-missing_pushed k cell tail old new none added =
-    some_pushed (cell_value k cell) value.Missing tail old new (ap (λ (b : Bool). if b then Some value.Missing else written_value k cell) none) added
-
-pub cell_pushed : (k : ColumnKind) (cell : List ℕ) (tail : Tail) (old new : List ℕ) (fits : Bool) → is_empty cell ≡ false
-    → Pushes (written_value k cell) tail old new fits → Pushes (cell_value k cell) tail old new fits
-cell_pushed k cell tail old new fits some pushed =
-    subst (λ (o : Option Value). Pushes o tail old new fits) (sym (ap (λ (b : Bool). if b then Some value.Missing else written_value k cell) some)) pushed
 
 -- ---- a value's lines, and those behind them
 pub tail_lines : (next : List ℕ) (v : Value) → value_with (tail_of next) v ≡ value_lines v ++ next

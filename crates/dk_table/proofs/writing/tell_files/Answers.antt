@@ -44,7 +44,7 @@ tell_rows-requires g c =
     let is : bodies_in command i (drop i files) ≡ own ++ rest =
     bodies_more command [] files i c.index-files-file.result lt c.index-files-file.is
     ∙ ap (λ (l : List Placed). l ++ rest) (sym c.in_ok-rows.ensures) in
-    (fit_parts form (bodies_in command i (drop i files)) own rest is c.loop-file.invariant.fit).own_fit
+    record { formed = c.requires.formed; fit = (fit_parts form (bodies_in command i (drop i files)) own rest is c.loop-file.invariant.fit).own_fit }
 
 pub loop-file-preserved : goal.loop-file-preserved
 loop-file-preserved g c =

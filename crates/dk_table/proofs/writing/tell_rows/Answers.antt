@@ -15,7 +15,7 @@ returns-in_err-next g c =
 pub tell_row-requires : goal.tell_row-requires
 tell_row-requires g c =
     let m : Moves c.rows.rows.left c.next.new.self true = rw c.if-branch.true at c.in_ok-next.ensures in
-    (fits_now c.args.form.now c.rows.rows.left c.next.new.self c.rows.invariant.fit m).row
+    record { formed = c.requires.formed; fits = (fits_now c.args.form.now c.rows.rows.left c.next.new.self c.rows.invariant.fit m).row }
 
 pub rows-preserved : goal.rows-preserved
 rows-preserved g c =

@@ -6,6 +6,7 @@ use Rattle.dk_write.specs.Texts.{trace_text}
 use Rattle.dk_table.proofs.Fitting.{told_fit}
 use Rattle.dk_table.proofs.Formed.{plan_told}
 use Rattle.dk_table.proofs.Pieces.{wrote_last}
+use Rattle.dk_table.proofs.Rowed.{formed_of}
 use Rattle.dk_table.specs.Forms.{all_fit, form_of, rows_text}
 use Rattle.dk_table.specs.Placed.{Placed}
 use Rattle.dk_table.specs.Tables.{bodies_in}
@@ -18,7 +19,11 @@ pub tell_files-requires : goal.tell_files-requires
 tell_files-requires g c =
     let plan = c.args.plan.now in
     let bodies : List Placed = bodies_in c.args.command.now 0 c.args.files.now in
-    ap (λ (f : Form). all_fit f bodies) (c.in_ok-form.ensures ∙ ap (form_of plan.decl) c.as_slice.ensures) ∙ told_fit plan.decl plan.kinds bodies c.requires.told
+    let is : c.in_ok-form.form ≡ form_of plan.decl plan.kinds = c.in_ok-form.ensures ∙ ap (form_of plan.decl) c.as_slice.ensures in
+    record {
+      formed = formed_of plan.decl plan.kinds c.in_ok-form.form is;
+      fit = ap (λ (f : Form). all_fit f bodies) is ∙ told_fit plan.decl plan.kinds bodies c.requires.told;
+    }
 
 pub returns-in_err-tell_files : goal.returns-in_err-tell_files
 returns-in_err-tell_files g c =
