@@ -1,5 +1,5 @@
 -- Where all files are read: what the rows that are held come to.
-use Rattle.std.proofs.Common.{◌≡◌, ◌≤◌, ◌<◌, ◌∙◌, ◌∷◌, ◌++◌, [], ℕ, Bool, true, false, List, Option, Some, None, Result, Ok, Err, append-nil, inr, length, length-append, map, take, refl, sym, ap, subst, arith}
+use Rattle.std.proofs.Common.{◌≡◌, ◌≤◌, ◌<◌, ◌∙◌, ◌∷◌, ◌++◌, [], ℕ, Bool, true, false, List, None, Result, Ok, Err, append-nil, inr, length, length-append, map, take, refl, sym, ap, subst, arith}
 use Rattle.std.proofs.lemmas.List.{take_all}
 use Rattle.dk_decl.specs.declared.decls.PointDecl.{PointDecl}
 use Rattle.dk_io.specs.Outside.{HeldFile}
@@ -13,7 +13,7 @@ use Rattle.dk_table.specs.Placed.{Placed}
 use Rattle.dk_table.specs.Progress.{AreBehind, AreWhole, EndedSays, StreamSays, all_rows}
 use Rattle.dk_table.specs.Stages.{IsBody, IsFront}
 use Rattle.dk_table.specs.Stops.{Writes}
-use Rattle.dk_table.specs.Streams.{Step, Stream, all_steps, ended_stream, first_cells, first_refusal, nothing, rows_steps, rows_stream, stream_at, stream_by, stream_with, told_steps}
+use Rattle.dk_table.specs.Streams.{Step, Stream, all_steps, ended_stream, first_cells, first_refusal, nothing, rows_steps, rows_stream, stream_at, stream_by, stream_with}
 use Rattle.dk_table.specs.Tables.{names_by, rows_in}
 use Rattle.dk_table.specs.Traces.{declaration_of}
 use Rattle.dk_table.specs.declared.columns.ColumnKind.{ColumnKind}

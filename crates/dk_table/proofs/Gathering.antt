@@ -1,11 +1,11 @@
 -- What is gathered of a file.
-use Rattle.std.proofs.Common.{◌≡◌, ◌≤◌, ◌<◌, ◌+◌, ◌∙◌, ◌==◌, ◌&&◌, ◌∷◌, ◌++◌, [], ℕ, Bool, true, false, List, Option, Some, None, append_assoc, append-nil, length, refl, sym, ap, subst, arith, inl, inr, if◌then◌else◌}
-use Rattle.std.specs.Prelude.{⊤, nat_lt}
+use Rattle.std.proofs.Common.{◌≡◌, ◌≤◌, ◌∙◌, ◌∷◌, ◌++◌, [], ℕ, Bool, true, false, List, Option, Some, None, append_assoc, append-nil, length, refl, sym, ap, subst, arith, if◌then◌else◌}
+use Rattle.std.specs.Prelude.{nat_lt}
 use Rattle.std.specs.Io.KnownBytes.{IsAtEnd, prepend_known}
 use Rattle.std.proofs.lemmas.Bool.{ltb-false}
 use Rattle.csv.specs.Reading.{is_bom, strip_bom}
 use Rattle.dk_io.specs.Outside.{HeldFile, Untold, Absent, Holds, Rose, Starts}
-use Rattle.dk_table.specs.Pieces.{FilledSays, FillsSays, IsGathered, without_mark}
+use Rattle.dk_table.specs.Pieces.{FillsSays, IsGathered, without_mark}
 use Rattle.dk_table.specs.declared.filling.Filled.{Filled}
 use Rattle.dk_table.specs.declared.filling.Filled.TheVariants.{Full, Ended, Failed}
 

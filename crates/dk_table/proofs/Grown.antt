@@ -1,9 +1,9 @@
 -- What more rows add to what was written.
-use Rattle.std.proofs.Common.{◌≡◌, ◌≤◌, ◌<◌, ◌+◌, ◌-◌, ◌∙◌, ◌∷◌, ◌++◌, [], ℕ, Bool, true, false, List, Option, Some, None, Result, Ok, Err, append_assoc, append-nil, length, length-append, map, take, refl, sym, ap, arith, zero, suc}
+use Rattle.std.proofs.Common.{◌≡◌, ◌≤◌, ◌<◌, ◌-◌, ◌∙◌, ◌∷◌, ◌++◌, [], ℕ, Bool, true, false, List, Option, Some, None, Err, append_assoc, append-nil, length, length-append, map, take, refl, sym, ap, arith, zero, suc}
 use Rattle.std.specs.Prelude.{nat_le}
 use Rattle.std.proofs.lemmas.Bool.{leb-false, leb-true}
 use Rattle.std.proofs.lemmas.Grind.{flat_map-append}
-use Rattle.std.proofs.lemmas.List.{length-take, map-append, take-append-le, take_all}
+use Rattle.std.proofs.lemmas.List.{map-append, take-append-le, take_all}
 use Rattle.dk_decl.specs.declared.decls.PointDecl.{PointDecl}
 use Rattle.dk_write.specs.Texts.{Records, Write, block_text, trace_text}
 use Rattle.dk_table.specs.Placed.{Placed}
@@ -12,7 +12,7 @@ use Rattle.dk_table.specs.Traces.{are_named, declaration_of, kinds_of, record_of
 use Rattle.dk_table.specs.declared.columns.ColumnKind.{ColumnKind}
 use Rattle.dk_table.specs.declared.faults.Refusal.{Refusal}
 use Rattle.dk_table.specs.declared.faults.TableWhy.TheVariants.{BadName}
-use Rattle.dk_table.proofs.Streamed.{Apart, before_apart, before_none, before_some, by_named, by_unnamed, count_before, refused_behind, refused_early, refused_in_front, told_apart, written_known, written_nothing}
+use Rattle.dk_table.proofs.Streamed.{Apart, before_apart, before_none, before_some, by_named, by_unnamed, refused_behind, refused_early, refused_in_front, told_apart, written_known, written_nothing}
 
 -- ---- the first rows of more
 take_split : (n : ℕ) (front rest : List Step) → (more : List Step) × (take n (front ++ rest) ≡ take n front ++ more)

@@ -1,10 +1,10 @@
 -- Going on with a file: what each part of it adds.
-use Rattle.std.proofs.Common.{◌≡◌, ◌≤◌, ◌<◌, ◌+◌, ◌∙◌, ◌==◌, ◌&&◌, ◌∷◌, ◌++◌, [], inl, inr, ℕ, Bool, true, false, List, Option, Some, None, Result, Ok, Err, append_assoc, append-nil, length, length-append, refl, sym, ap, subst, arith, if◌then◌else◌}
-use Rattle.std.specs.Prelude.{◌%◌, ◌⊎◌, count_by, not}
+use Rattle.std.proofs.Common.{◌≡◌, ◌<◌, ◌∙◌, ◌==◌, ◌&&◌, ◌∷◌, ◌++◌, [], inl, inr, ℕ, Bool, true, false, List, Option, None, Result, Ok, Err, append_assoc, append-nil, length, length-append, refl, sym, ap, subst, arith, if◌then◌else◌}
+use Rattle.std.specs.Prelude.{◌%◌, count_by, not}
 use Rattle.std.proofs.lemmas.Bool.{eqb-true}
-use Rattle.csv.specs.Reading.{is_bom, records, strip_bom}
+use Rattle.csv.specs.Reading.{is_bom, strip_bom}
 use Rattle.dk_driver.specs.Reads.{AtStart, HasBroken, Within, held_file_at}
-use Rattle.dk_io.specs.Outside.{HeldFile, Absent}
+use Rattle.dk_io.specs.Outside.{HeldFile}
 use Rattle.dk_io.specs.Streams.{Texts, with_bytes}
 use Rattle.dk_io.specs.declared.outside.Stream.TheVariants.{Report}
 use Rattle.dk_write.specs.Texts.{trace_text}
@@ -28,7 +28,7 @@ use Rattle.dk_table.specs.declared.filling.OpenFault.TheVariants as opening
 use Rattle.dk_table.specs.declared.filling.Piece.{Piece}
 use Rattle.dk_table.specs.declared.stages.Stage.{Stage}
 use Rattle.dk_table.specs.declared.stops.Stop.{Stop}
-use Rattle.dk_table.specs.declared.stops.Stop.TheVariants.{NoMemory, Refused, Unread}
+use Rattle.dk_table.specs.declared.stops.Stop.TheVariants.{NoMemory, Refused}
 use Rattle.dk_table.specs.declared.streaming.Going.{Going}
 use Rattle.dk_table.proofs.Contents.{helds_length}
 use Rattle.dk_table.proofs.Gathering.{gathered_cut, gathered_more, gathered_since}

@@ -1,19 +1,18 @@
 -- What is known behind each file, and within one.
-use Rattle.std.proofs.Common.{◌≡◌, ◌≤◌, ◌<◌, ◌+◌, ◌∙◌, ◌∷◌, ◌++◌, [], inl, inr, ℕ, zero, suc, Bool, true, false, List, Option, Some, None, Result, Ok, Err, append_assoc, append-nil, length, length-append, not, refl, sym, ap, subst, take, arith, if◌then◌else◌}
-use Rattle.std.specs.Prelude.{⊤, IfOk, is_none}
+use Rattle.std.proofs.Common.{◌≡◌, ◌<◌, ◌+◌, ◌∙◌, ◌∷◌, ◌++◌, [], inl, inr, ℕ, zero, suc, Bool, false, List, Option, Some, None, Ok, Err, append_assoc, append-nil, length, length-append, not, refl, sym, ap, subst, take, arith, if◌then◌else◌}
 use Rattle.std.proofs.lemmas.List.{take_all}
 use Rattle.csv.specs.Reading.{records, strip_bom}
-use Rattle.dk_driver.specs.Reads.{AtStart, HasBroken, Within, held_file_at}
-use Rattle.dk_io.specs.Outside.{HeldFile, Untold, Absent, Holds, Rose}
+use Rattle.dk_driver.specs.Reads.{HasBroken, Within, held_file_at}
+use Rattle.dk_io.specs.Outside.{HeldFile, Untold, Absent, Holds}
 use Rattle.dk_io.specs.Streams.{AddsFront, Texts, with_bytes}
 use Rattle.dk_io.specs.declared.outside.Stream.TheVariants.{Report}
 use Rattle.dk_write.specs.Texts.{trace_text}
 use Rattle.dk_table.specs.Chunks.{EndsRow}
 use Rattle.dk_table.specs.Contents.{AreReadAs, Begins, ReadAs, Reached, helds_of}
-use Rattle.dk_table.specs.Pieces.{CutsOf, IsGathered}
+use Rattle.dk_table.specs.Pieces.{IsGathered}
 use Rattle.dk_table.specs.Placed.{Placed}
-use Rattle.dk_table.specs.Progress.{AreBehind, AreWhole, FileGoes, HasFirst, IsGoing, IsStopped, IsWithin, StopSays, all_rows, reached_stream}
-use Rattle.dk_table.specs.Stages.{Goes, IsAt, IsBehind, rows_behind}
+use Rattle.dk_table.specs.Progress.{AreWhole, FileGoes, HasFirst, IsWithin, StopSays, all_rows, reached_stream}
+use Rattle.dk_table.specs.Stages.{IsAt, IsBehind, rows_behind}
 use Rattle.dk_table.specs.Stops.{Writes}
 use Rattle.dk_table.specs.Streams.{Step, Stream, all_steps, end_steps, first_cells, first_rows, names_in, next_rows, rows_steps, rows_stream, stream_in, stream_with, text_rows}
 use Rattle.dk_table.specs.Tables.{are_paired, config_by, names_by, placed_from, rows_in}

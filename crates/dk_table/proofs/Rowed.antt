@@ -1,5 +1,5 @@
 -- The record of a row, cell by cell.
-use Rattle.std.proofs.Common.{◌≡◌, ◌≤◌, ◌<◌, ◌+◌, ◌∙◌, ◌∷◌, ◌++◌, [], ℕ, zero, suc, Bool, true, false, List, append_assoc, append-nil, arith, get_or, length, map, refl, sym, take, ap, subst}
+use Rattle.std.proofs.Common.{◌≡◌, ◌≤◌, ◌<◌, ◌+◌, ◌∙◌, ◌∷◌, ◌++◌, [], ℕ, zero, suc, Bool, true, false, List, append_assoc, arith, get_or, length, map, refl, sym, take, ap, subst}
 use Rattle.std.proofs.lemmas.List.{take-append-le, take_all}
 use Rattle.dk_decl.specs.declared.decls.PointDecl.{PointDecl}
 use Rattle.dk_table.specs.Forms.{IsFormed, form_of, line_at, tail_of, tails_of}

@@ -1,4 +1,4 @@
-use Rattle.std.proofs.Common.{ap, List, subst, sym, ℕ}
+use Rattle.std.proofs.Common.{List, subst, sym, ℕ}
 use Rattle.dk_io.specs.Outside.{HeldFile, Rose}
 use Rattle.dk_table.proofs.Gathering.{gathered_since, opened, rose_before}
 use Rattle.dk_table.specs.Pieces.{IsGathered, without_mark}

@@ -1,4 +1,4 @@
-use Rattle.std.proofs.Common.{◌≡◌, ◌++◌, ◌∷◌, [], Bool, Err, false, List, Ok, subst, sym, true, ℕ}
+use Rattle.std.proofs.Common.{◌≡◌, ◌∷◌, [], Bool, Err, false, List, Ok, subst, sym, true, ℕ}
 use Rattle.std.proofs.lemmas.Result.{err_from_is_err_and}
 use Rattle.dk_io.specs.Streams.{AddsFront}
 use Rattle.dk_io.specs.declared.outside.Stream.TheVariants.{Report}
@@ -7,7 +7,7 @@ use Rattle.dk_table.proofs.Rowed.{formed_of, row_all, row_none}
 use Rattle.dk_table.proofs.Told.{Gathered, cell_refused, row_gathered, row_halted}
 use Rattle.dk_table.specs.Forms.{row_fits, row_text}
 use Rattle.dk_table.specs.Pushing.{GathersRow}
-use Rattle.dk_table.specs.Streams.{Step, told_steps}
+use Rattle.dk_table.specs.Streams.{told_steps}
 use Rattle.dk_table.specs.Traces.{is_told}
 use Rattle.dk_table.specs.Writing.{HaltHasCause, IsTold}
 use Rattle.dk_table.specs.declared.faults.TableWhy.TheVariants.{BadCell}

@@ -1,4 +1,4 @@
-use Rattle.std.proofs.Common.{List, Ok, Err, subst}
+use Rattle.std.proofs.Common.{Ok, Err, subst}
 use Rattle.std.proofs.lemmas.Result.{err_from_is_err_and}
 use Rattle.dk_table.specs.Stages.{IsAt, IsBody, IsFront}
 use Rattle.dk_table.specs.declared.stages.Body.{Body}

@@ -1,4 +1,4 @@
-use Rattle.std.proofs.Common.{[], ◌≡◌, ◌≤◌, ◌<◌, ◌+◌, ◌++◌, ◌∷◌, ◌∙◌, arith, inl, length, List, ℕ, refl, subst, sym}
+use Rattle.std.proofs.Common.{[], ◌≤◌, ◌+◌, ◌++◌, ◌∷◌, ◌∙◌, arith, inl, length, List, ℕ, refl, subst, sym}
 use Rattle.std.proofs.lemmas.Result.{err_from_is_err_and}
 use Rattle.dk_io.specs.Outside.{HeldFile, Rose}
 use Rattle.dk_table.specs.Progress.{AreBehind, StopSays, all_rows}

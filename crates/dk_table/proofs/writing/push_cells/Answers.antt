@@ -1,5 +1,5 @@
 use Rattle.std.proofs.Common.{◌≡◌, ◌<◌, ◌≤◌, ◌+◌, ◌∙◌, ◌++◌, Bool, append-nil, ap, arith, false, flat_map, get_or, is_some, length, List, ℕ, subst, sym, take, true}
-use Rattle.std.specs.List.{list_all, zip}
+use Rattle.std.specs.List.{zip}
 use Rattle.dk_table.proofs.Getting.{cell_read}
 use Rattle.dk_table.proofs.Pairs.{zip_ends, zip_goes, zip_text, zip_text_all}
 use Rattle.dk_table.proofs.Pushed.{pushed_cell, pushed_fits, pushed_none}

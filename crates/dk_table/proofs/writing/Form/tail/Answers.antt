@@ -1,6 +1,5 @@
-use Rattle.std.proofs.Common.{◌≡◌, ◌+◌, ◌<◌, ◌≤◌, ◌∙◌, ap, arith, get_or, length, List, sym, take}
-use Rattle.dk_table.proofs.Rowed.{line_past, tail_there}
-use Rattle.dk_table.specs.Forms.{tail_of}
+use Rattle.std.proofs.Common.{◌∙◌, ap, arith, get_or, List}
+use Rattle.dk_table.proofs.Rowed.{tail_there}
 use Rattle.dk_table.specs.declared.tails.Tail.{Tail}
 use Rattle.dk_table.specs.declared.writing.Form.{Form}
 use Rattle.dk_table.proofs.writing.Form.tail.Goals as goal
