@@ -178,7 +178,7 @@ pub(crate) fn leads(front: &[u8]) -> bool
 fn is_plain(byte: u8) -> bool
     ensures { result ≡ is_plain byte }
 {
-    !matches!(byte, b'"' | b'\\' | b'\n' | b'\r' | b'\t')
+    byte > b'\\' || !matches!(byte, b'"' | b'\\' | b'\n' | b'\r' | b'\t')
 }
 
 // A byte of a text between quotes.
