@@ -25,13 +25,13 @@ use Rattle.dk_blocks.specs.Blocks.{Group, groups_of, is_blank_line, onto_group, 
 use Rattle.dk_blocks.specs.Finding.{outcome_of}
 use Rattle.dk_blocks.specs.Fitting.{ConstantsFit, FitAt}
 use Rattle.dk_blocks.specs.History.{History, Taken, after_record, after_sample, effect_of, is_declaration, is_list_of_implementors, with_record}
-use Rattle.dk_blocks.specs.LineSteps.{stop_of_fault}
+use Rattle.dk_blocks.specs.Gathering.{stop_of_fault}
 use Rattle.dk_blocks.specs.Reading.{after_next}
 use Rattle.dk_blocks.specs.Standing.{Closes, Stands, left_with_answer}
 use Rattle.dk_blocks.specs.Steps.{Steps, behind_block, groups_left}
 use Rattle.dk_blocks.specs.declared.found.Found.{Found}
 use Rattle.dk_blocks.specs.declared.kept.Kept.{Kept}
-use Rattle.dk_blocks.specs.declared.reader.Stop.TheVariants.{Read}
+use Rattle.dk_blocks.specs.declared.gather.Stop.TheVariants.{Read}
 use Rattle.dk_blocks.proofs.Fronting.{at_record, samples}
 use Rattle.dk_blocks.proofs.LastLines.{last_passed}
 use Rattle.dk_blocks.proofs.Stepping.{grouped_blank, grouped_words, next_from, stops}

@@ -1,51 +1,36 @@
--- The lines of a block, one more at a time.
-use Rattle.std.proofs.Common.{◌≡◌, ◌∙◌, ℕ, Bool, true, false, List, ◌∷◌, cond, if◌then◌else◌, Option, Some, None, Result, Ok, Err, refl, sym, ap, subst}
-use Rattle.dk_base.specs.Reading.{Line, LineFault, Reads, ◌>>=◌}
+-- The front of a block, and its record.
+use Rattle.std.proofs.Common.{◌≡◌, ◌∙◌, ℕ, Bool, true, false, List, ◌∷◌, cond, if◌then◌else◌, Option, Some, None, Result, Ok, Err, refl, sym, ap}
+use Rattle.dk_base.specs.Reading.{Line, LineFault, ◌>>=◌}
 use Rattle.dk_base.specs.declared.faults.BlockFault.{BlockFault}
 use Rattle.dk_base.specs.declared.faults.BlockFault.TheVariants.{Refused, NoMemory}
 use Rattle.dk_base.specs.declared.why.Why.{Why}
+use Rattle.dk_base.specs.declared.why.Why.TheVariants.{BadHeader}
 use Rattle.dk_decl.specs.Headers.{HeaderAnswers, header_line}
-use Rattle.dk_decl.specs.Outcomes.{refused, ReaderGoesOn as DeclGoesOn, FaultAgrees, FaultAgreesOnward as DeclToldOn}
+use Rattle.dk_decl.specs.Outcomes.{refused, FaultAgrees}
 use Rattle.dk_decl.specs.declared.header.Header.{Header}
 use Rattle.dk_blocks.specs.Fronts.{Front, at_header_line, block_front, is_comment}
-use Rattle.dk_blocks.specs.History.{History, Taken, after_declaration, after_front, after_record, after_sample, block, effect_of, is_declaration, is_list_of_implementors, where_it_ends, with_record}
-use Rattle.dk_base.specs.declared.why.Why.TheVariants.{BadHeader}
-use Rattle.std.specs.Prelude.{OnOk}
-use Rattle.dk_points.specs.Table.{Point}
-use Rattle.dk_trace.specs.Records.{Sample}
-use Rattle.dk_trace.specs.RecordsResumed.{record_resumed}
-use Rattle.dk_trace.specs.declared.reader.RecordReader.{RecordReader}
-use Rattle.dk_blocks.specs.Standing.{BlockGoesOn, Closes, DeclaredAs, FaultAgreesOnward, block_resumed, left_behind, resumed_by}
-use Rattle.dk_blocks.specs.LineSteps.{WordsGive, stop_of_fault}
-use Rattle.dk_blocks.specs.declared.block.Block.{Block}
-use Rattle.dk_blocks.specs.declared.block.State.{State}
-use Rattle.dk_blocks.specs.declared.block.State.TheVariants as state
+use Rattle.dk_blocks.specs.History.{History, Taken, after_declaration, after_front, after_record, after_sample, block, is_declaration, is_list_of_implementors, where_it_ends}
+use Rattle.dk_blocks.specs.Standing.{Closes, DeclaredAs}
 
 -- ---- the front of a block
 
--- nothing was read yet
-pub begun : (ignores : Bool) (h : History) (header : Header) (ls : List Line) (close : Option ℕ) → header ≡ h.header
-    → (block_front header None ls >>= λ front. after_front ignores (record h { header = header }) front close) ≡ effect_of ignores h ls close
-unfolding effect_of
-begun ignores h header ls close is = ap (λ (x : Header). block_front x None ls >>= λ front. after_front ignores (record h { header = x }) front close) is
-
-front_comment : (header : Header) (last : Option ℕ) (l : Line) (ls : List Line) → is_comment l.bytes ≡ true → block_front header last (l ∷ ls) ≡ block_front header last ls
+pub front_comment : (header : Header) (last : Option ℕ) (l : Line) (ls : List Line) → is_comment l.bytes ≡ true → block_front header last (l ∷ ls) ≡ block_front header last ls
 front_comment header last l ls is =
     ap (λ b. cond b (block_front header last ls) (at_header_line (header_line header l.bytes) l.number (record { header = header; last = last; lines = l ∷ ls }) (λ next. block_front next (Some l.number) ls))) is
 
-front_header : (header : Header) (last : Option ℕ) (l : Line) (ls : List Line) (o : Option (Result Header Why)) → is_comment l.bytes ≡ false → header_line header l.bytes ≡ o
+pub front_header : (header : Header) (last : Option ℕ) (l : Line) (ls : List Line) (o : Option (Result Header Why)) → is_comment l.bytes ≡ false → header_line header l.bytes ≡ o
     → block_front header last (l ∷ ls) ≡ at_header_line o l.number (record { header = header; last = last; lines = l ∷ ls }) (λ next. block_front next (Some l.number) ls)
 front_header header last l ls o is at =
     ap (λ b. cond b (block_front header last ls) (at_header_line (header_line header l.bytes) l.number (record { header = header; last = last; lines = l ∷ ls }) (λ next. block_front next (Some l.number) ls))) is
     ∙ ap (λ (p : Option (Result Header Why)). at_header_line p l.number (record { header = header; last = last; lines = l ∷ ls }) (λ next. block_front next (Some l.number) ls)) at
 
--- a comment
-pub past_comment : (ignores : Bool) (h : History) (last : Option ℕ) (l : Line) (ls : List Line) (close : Option ℕ) → is_comment l.bytes ≡ true
-    → (block_front h.header last (l ∷ ls) >>= λ front. after_front ignores h front close) ≡ (block_front h.header last ls >>= λ front. after_front ignores h front close)
-past_comment ignores h last l ls close is = ap (λ (r : Result Front LineFault). r >>= λ front. after_front ignores h front close) (front_comment h.header last l ls is)
+-- the first line of a record
+pub front_record : (header : Header) (last : Option ℕ) (l : Line) (ls : List Line) → is_comment l.bytes ≡ false → header_line header l.bytes ≡ None
+    → block_front header last (l ∷ ls) ≡ Ok (record { header = header; last = last; lines = l ∷ ls })
+front_record header last l ls is at = front_header header last l ls None is at
 
 -- what an answer of a header says of the line
-answered_true : (o : Option (Result Header Why)) (h h' : Header) → HeaderAnswers o h (Ok true) h' → o ≡ Some (Ok h')
+pub answered_true : (o : Option (Result Header Why)) (h h' : Header) → HeaderAnswers o h (Ok true) h' → o ≡ Some (Ok h')
 answered_true None h h' a = let e = a.0 in absurd (cc (e))
 answered_true (Some (Ok next)) h h' a = ap (λ (x : Header). let r : Result Header Why = Ok x in Some r) (sym a.1)
 answered_true (Some (Err why)) h h' a = let e = a.0 in absurd (cc (e))
@@ -55,27 +40,10 @@ answered_false None h h' a = (refl, a.1)
 answered_false (Some (Ok next)) h h' a = let e = a.0 in absurd (cc (e))
 answered_false (Some (Err why)) h h' a = let e = a.0 in absurd (cc (e))
 
-answered_fault : (o : Option (Result Header Why)) (h h' : Header) (why : Why) → HeaderAnswers o h (Err why) h' → o ≡ Some (Err why)
+pub answered_fault : (o : Option (Result Header Why)) (h h' : Header) (why : Why) → HeaderAnswers o h (Err why) h' → o ≡ Some (Err why)
 answered_fault None h h' why a = let e = a.0 in absurd (cc (e))
 answered_fault (Some (Ok next)) h h' why a = let e = a.0 in absurd (cc (e))
 answered_fault (Some (Err w)) h h' why a = let e = a.0 in let same : w ≡ why = cc in ap (λ (x : Why). let r : Result Header Why = Err x in Some r) same
-
--- a header line, behind which this header is in force
-pub past_header : (ignores : Bool) (h : History) (header : Header) (last : Option ℕ) (l : Line) (ls : List Line) (close : Option ℕ) → is_comment l.bytes ≡ false
-    → HeaderAnswers (header_line h.header l.bytes) h.header (Ok true) header
-    → (block_front h.header last (l ∷ ls) >>= λ front. after_front ignores h front close)
-    ≡ (block_front header (Some l.number) ls >>= λ front. after_front ignores (record h { header = header }) front close)
-past_header ignores h header last l ls close is answers =
-    ap (λ (r : Result Front LineFault). r >>= λ front. after_front ignores h front close)
-    (front_header h.header last l ls (Some (Ok header)) is (answered_true (header_line h.header l.bytes) h.header header answers))
-
--- a header line that is refused
-pub bad_header : (ignores : Bool) (h : History) (header : Header) (last : Option ℕ) (l : Line) (why : Why) (ls : List Line) (close : Option ℕ) → is_comment l.bytes ≡ false
-    → HeaderAnswers (header_line h.header l.bytes) h.header (Err why) header
-    → (block_front h.header last (l ∷ ls) >>= λ front. after_front ignores h front close) ≡ Err (record { line = l.number; why = why })
-bad_header ignores h header last l why ls close is answers =
-    ap (λ (r : Result Front LineFault). r >>= λ front. after_front ignores h front close)
-    (front_header h.header last l ls (Some (Err why)) is (answered_fault (header_line h.header l.bytes) h.header header why answers))
 
 -- the first line of the record
 pub at_record : (ignores : Bool) (h : History) (header : Header) (last : Option ℕ) (l : Line) (ls : List Line) (close : Option ℕ) → is_comment l.bytes ≡ false
@@ -87,11 +55,6 @@ at_record ignores h header last l ls close is answers =
     ∙ ap (λ (x : Header). after_record ignores (record h { header = x }) l ls close) (sym both.1)
 
 -- ---- one reader behind another
-
--- what is told of a reader is told of what is made of what it reads
-pub told_then : {A : Type 0} (e : BlockFault) (read : Reads A) (f : A → Option ℕ → Result Taken LineFault) → DeclToldOn e read → FaultAgreesOnward e (λ ls close. read ls close >>= λ x. f x close)
-told_then (Refused line why) read f told = λ ls close. ap (λ (r : Result _ LineFault). r >>= λ x. f x close) (told ls close)
-told_then NoMemory read f told = tt
 
 -- a fault of what is read where the block ends
 pub told_at : {A : Type 0} (e : BlockFault) (read : Result A LineFault) (f : A → Result Taken LineFault) → FaultAgrees e read → FaultAgrees e (read >>= f)
@@ -116,33 +79,6 @@ samples ignores h l ls close is list =
     ap (λ b. if b then after_declaration h l ls close else if is_list_of_implementors l.bytes then where_it_ends close h (Ok (block h)) else after_sample ignores h l ls close) is
     ∙ ap (λ b. if b then where_it_ends close h (Ok (block h)) else after_sample ignores h l ls close) list
 
--- ---- what goes on as one reader goes on as another that reads the same
-
-pub goes_as : (ignores : Bool) (h : History) (result : Result Block BlockFault) (read more : Reads Taken) → ((ls : List Line) (close : Option ℕ) → read ls close ≡ more ls close) → BlockGoesOn ignores h result more → BlockGoesOn ignores h result read
-goes_as ignores h (Ok b) read more same goes = λ ls close. same ls close ∙ goes ls close
-goes_as ignores h (Err (Refused line why)) read more same told = λ ls close. same ls close ∙ told ls close
-goes_as ignores h (Err NoMemory) read more same told = tt
-
-pub if_ok : {A E : Type 0} (result : Result A E) (P : Type 0) → P → OnOk result P
-if_ok (Ok x) P p = p
-if_ok (Err e) P p = tt
-
--- a record that goes on in place
-pub record_goes : {A : Type 0} (ignores : Bool) (h : History) (ps : List Point) (b : Block) (r r' : RecordReader) (l : Line) (result : Result A BlockFault)
-    → b.state ≡ state.Record r → ps ≡ h.table → DeclGoesOn (λ (x : A). record_resumed ps r') result (λ ls. record_resumed ps r (l ∷ ls))
-    → BlockGoesOn ignores h (left_behind (record b { state = state.Record r' }) result) (λ ls close. block_resumed ignores h b (l ∷ ls) close)
-unfolding block_resumed
-record_goes ignores h ps b r r' l (Ok x) is table goes = λ ls close.
-    let now : History = record h { header = b.header } in
-    ap (λ (s : State). resumed_by ignores now s (l ∷ ls) close) is
-    ∙ ap (λ (o : Result Sample LineFault). o >>= λ s. where_it_ends close now (with_record ignores now s))
-    (ap (λ (qs : List Point). record_resumed qs r (l ∷ ls) close) (sym table) ∙ goes ls close ∙ ap (λ (qs : List Point). record_resumed qs r' ls close) table)
-record_goes ignores h ps b r r' l (Err e) is table told =
-    let now : History = record h { header = b.header } in
-    goes_as ignores h (Err e) _ _ (λ ls close. ap (λ (s : State). resumed_by ignores now s (l ∷ ls) close) is)
-    (told_then e (λ ls. record_resumed h.table r (l ∷ ls)) (λ s close. where_it_ends close now (with_record ignores now s))
-    (subst (λ (qs : List Point). DeclToldOn e (λ ls. record_resumed qs r (l ∷ ls))) table told))
-
 -- ---- the end of a block
 
 pub told_closes : (e : BlockFault) (read : Result Taken LineFault) → FaultAgrees e read → Closes (Err e) read
@@ -152,11 +88,6 @@ told_closes NoMemory read told = tt
 pub told_declared : (e : BlockFault) (read : Result Taken LineFault) → FaultAgrees e read → DeclaredAs (Err e) read
 told_declared (Refused line why) read told = told
 told_declared NoMemory read told = tt
-
--- a line's fault
-pub told_words : (ignores : Bool) (e : BlockFault) (read : Reads Taken) (l : Line) → FaultAgreesOnward e (λ ls close. read (l ∷ ls) close) → WordsGive ignores read l (Err (stop_of_fault e))
-told_words ignores (Refused line why) read l told = told
-told_words ignores NoMemory read l told = tt
 
 -- a word that is not awaited, and one that is
 pub no_word : (b : Bool) (line : ℕ) (h : History) (r : Result Unit Why) → r ≡ (if b then Err BadHeader else Ok tt) → r ≡ Ok tt → (if b then refused BadHeader line else Ok (block h)) ≡ Ok (block h)

@@ -1,4 +1,4 @@
-pub mod BlockLaws
+pub mod FirstFaults
 pub mod Grouping
 pub mod Constants
 pub mod Values
@@ -10,6 +10,8 @@ pub mod Recording
 pub mod LastLines
 mod Examples
 pub mod Stepping
+pub mod Gathered
+pub mod Closing
 pub mod AtHand
 pub mod FirstLines
 pub mod Added

@@ -10,35 +10,21 @@ use Rattle.dk_calls.specs.Records.{call_of}
 use Rattle.dk_calls.specs.Standing.{CallsStandForRecords as CallsStandFor, WaitAlike}
 use Rattle.dk_calls.specs.Waiting.{Call}
 use Rattle.dk_calls.specs.declared.calls.Calls.{Calls}
-use Rattle.dk_decl.specs.Outcomes.{FaultAgrees, ReaderGoesOn as DeclGoesOn}
+use Rattle.dk_decl.specs.Outcomes.{FaultAgrees}
 use Rattle.dk_derive.specs.Laws.{var_kinds}
 use Rattle.dk_points.specs.Table.{Point}
 use Rattle.dk_points.specs.Vars.{vars_of}
 use Rattle.dk_trace.specs.Fitting.{FitKinds}
 use Rattle.dk_trace.specs.Records.{Sample, sample_of}
-use Rattle.dk_trace.specs.RecordsResumed.{IsOf, record_resumed}
-use Rattle.dk_trace.specs.declared.reader.RecordReader.{RecordReader}
 use Rattle.dk_blocks.proofs.Keeping.{recorded_left, recorded_ok, recorded_told, stand_alike, waiting_alike, waiting_more}
 use Rattle.dk_blocks.proofs.Values.{base_fit, sample_fits}
-use Rattle.dk_blocks.specs.Fitting.{ConstantsFit, FitAt, ReadsFitting}
+use Rattle.dk_blocks.specs.Fitting.{FitAt}
 use Rattle.dk_blocks.specs.Finding.{FoundFits, outcome_of}
 use Rattle.dk_blocks.specs.History.{History, Samples, base_values, block_by, own_samples_with, with_record}
 use Rattle.dk_blocks.specs.Keeping.{IsSound, Keeping}
 use Rattle.dk_blocks.specs.Refusing.{unmatched_answer}
 use Rattle.dk_blocks.specs.Standing.{Closes, Stands, left_with_answer}
 use Rattle.dk_blocks.specs.declared.found.Found.{Found}
-
--- ---- reading
-
--- a record that is begun gives values of its point's variables
-pub reads_first : (ps : List Point) (first : Line) (r : RecordReader) → ConstantsFit ps → DeclGoesOn (record_resumed ps) (Ok r) (sample_of ps first) → ReadsFitting ps r
-reads_first ps first r all goes = λ ls close s e. sample_fits ps first ls close s all (goes ls (Some close) ∙ e)
-
--- and so does one with a line more
-pub reads_on : {A : Type 0} (ps : List Point) (r r' : RecordReader) (l : Line) (result : Result A BlockFault) → IsOf ps r' → ReadsFitting ps r
-    → DeclGoesOn (λ (x : A). record_resumed ps r') result (λ ls. record_resumed ps r (l ∷ ls)) → OnOk result (IsOf ps r' × ReadsFitting ps r')
-reads_on ps r r' l (Ok x) of fits goes = (of, λ ls close s e. fits (l ∷ ls) close s (goes ls (Some close) ∙ e))
-reads_on ps r r' l (Err e) of fits goes = tt
 
 -- ---- the end of a record
 

@@ -7,12 +7,12 @@ use Rattle.dk_trace.specs.Whole.{StandsWhole}
 use Rattle.dk_trace.specs.declared.whole.Whole.{Whole}
 use Rattle.dk_blocks.specs.Fitting.{FitAt}
 use Rattle.dk_blocks.specs.History.{History, after_sample, effect_of}
-use Rattle.dk_blocks.specs.LineSteps.{BlockGives}
+use Rattle.dk_blocks.specs.BlockSteps.{BlockGives}
 use Rattle.dk_blocks.specs.Standing.{Stands}
 use Rattle.dk_blocks.specs.Steps.{Grown}
 use Rattle.dk_blocks.specs.declared.found.Found.{Found}
 use Rattle.dk_blocks.specs.declared.kept.Kept.{Kept}
-use Rattle.dk_blocks.specs.declared.reader.Stop.{Stop}
+use Rattle.dk_blocks.specs.declared.gather.Stop.{Stop}
 
 -- a block of this first line is a sample record, and neither a comment nor a header line stands in front of it
 abbrev pub BeginsRecord : Kept → List ℕ → Type 0

@@ -12,8 +12,9 @@ pub mod Fronts
 pub mod Fitting
 pub mod Reading
 -- inner: cited by the clauses of bodies and in proofs alone
-pub mod LineSteps
+pub mod BlockSteps
+pub mod Gathering
+pub mod Judging
 pub mod AtHand
 pub mod Refusing
 pub mod Keeping
-pub mod Turns

@@ -1,33 +1,9 @@
-// A block that is being read.
+// What the first lines of a block say.
 ghost use Rattle.std.specs.Prelude.{◌≡◌, ◌||◌};
 ghost use Rattle.dk_decl.specs.Comments.{is_comment};
 ghost use Rattle.dk_blocks.specs.History.{is_declaration, is_list_of_implementors};
 
-use bumpalo::Bump;
 use dk_base::first_word;
-use dk_decl::{DeclBlock, Header};
-use dk_trace::RecordReader;
-
-/// A block that is being read, with the arena in which its values lie and what its header lines have put in force.
-#[derive(Drop)]
-pub(crate) struct Block<'a> {
-    pub(crate) arena: &'a Bump,
-    pub(crate) header: Header,
-    pub(crate) state: State<'a>,
-}
-
-/// What the lines of a block so far come to.
-#[derive(Drop)]
-pub(crate) enum State<'a> {
-    /// Comments and header lines alone, the last of which has this number, if there is one.
-    Front { last: Option<u64> },
-    /// The front of a declaration that begins at this line.
-    Declaration { line: u64, reader: DeclBlock },
-    /// A list of implementors, which is read past.
-    Implementors,
-    /// The front of a sample record.
-    Record { reader: RecordReader<'a> },
-}
 
 /// Whether a line is a comment: it begins with `#` or `//`.
 #[tactic(auto, unfolding(dk_decl::specs::Comments::is_comment))]

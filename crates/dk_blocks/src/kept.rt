@@ -13,31 +13,30 @@ ghost use Rattle.dk_trace.specs.RecordsResumed.{shown};
 ghost use Rattle.dk_blocks.specs.AtHand.{BeginsRecord, IsAtHand};
 ghost use Rattle.dk_blocks.specs.Fitting.{ConstantsFit, Extends, FitAt, HasFittingConstants};
 ghost use Rattle.dk_blocks.specs.Finding.{FoundFits};
-ghost use Rattle.dk_blocks.specs.History.{History, after_declaration, after_record, after_sample, base_values, effect_of, file_ended, nothing_by, with_declaration, with_record, without_record};
+ghost use Rattle.dk_blocks.specs.History.{History, base_values, file_ended, nothing_by, with_declaration, with_record, without_record};
 ghost use Rattle.dk_blocks.specs.Refusing.{unmatched_answer};
 
-use crate::block::{Block, State, is_comment, is_declaration, is_list_of_implementors};
+use crate::block::{is_comment, is_declaration, is_list_of_implementors};
 use crate::first_lines::is_plainly_sample;
 use crate::found::Found;
 use bumpalo::Bump;
 use dk_base::{BlockFault, NoMemory, PointId, View};
 use dk_calls::{Calls, is_entry};
-use dk_decl::{DeclBlock, Header, PointDecl};
+use dk_decl::{Header, PointDecl};
 use dk_points::{Declared, Points};
-use dk_trace::{BaseSample, RecordReader, Whole, read_whole};
+use dk_trace::{BaseSample, Whole, read_whole};
 use std::alloc::Global;
 use std::marker::Model;
-use std::mem::replace;
 
 /// What a reader keeps from block to block: the table of points, what the header lines have put in force, the entries of the file that
 /// wait, and the point of the last record.
 #[derive(Drop)]
 pub(crate) struct Kept {
-    alloc: Global,
-    points: Points,
-    header: Header,
-    calls: Calls,
-    last: PointId,
+    pub(crate) alloc: Global,
+    pub(crate) points: Points,
+    pub(crate) header: Header,
+    pub(crate) calls: Calls,
+    pub(crate) last: PointId,
 }
 
 impl Model for Kept {
@@ -99,7 +98,7 @@ fn or_left_out<'a>(ignores: bool, fault: BlockFault) -> Result<Option<Found<'a>>
 }
 
 impl Kept {
-    ghost use Rattle.dk_blocks.specs.Standing.{Stands, Fits, BlockGoesOn, Closes, DeclaredAs, IsBetweenFiles, IsDeclared, left_behind, left_with_answer, block_resumed, resumed_by};
+    ghost use Rattle.dk_blocks.specs.Standing.{Stands, Closes, DeclaredAs, IsBetweenFiles, left_with_answer};
 
     /// No points.
     #[tactic(auto, unfolding(crate::specs::Standing::Stands))]
@@ -133,199 +132,11 @@ impl Kept {
         }
     }
 
-    /// A block of which no line was read.
-    #[tactic(auto, unfolding(crate::specs::Standing::block_resumed, crate::specs::Standing::Stands, crate::specs::Standing::Fits, crate::specs::History::effect_of))]
-    pub(crate) fn begin<'a>(&self, arena: &'a Bump) -> Block<'a>
-        ensures resumes { (ignores : Bool) (h : History) → Stands self.now h → (ls : List Line) (close : Option ℕ) → block_resumed ignores h result ls close ≡ effect_of ignores h ls close }
-        ensures fits { Fits self.now result }
-    {
-        Block {
-            arena,
-            header: self.header,
-            state: State::Front { last: None },
-        }
-    }
-
-    /// The next block begins in place of this one.
-    #[tactic(auto, unfolding(crate::specs::Standing::block_resumed, crate::specs::Standing::Stands, crate::specs::Standing::Fits, crate::specs::History::effect_of))]
-    pub(crate) fn begin_again<'a>(&self, block: &mut Block<'a>)
-        ensures resumes { (ignores : Bool) (h : History) → Stands self.now h → (ls : List Line) (close : Option ℕ) → block_resumed ignores h block.new ls close ≡ effect_of ignores h ls close }
-        ensures fits { Fits self.now block.new }
-    {
-        block.header = self.header;
-        block.state = State::Front { last: None };
-    }
-
-    /// One line more, which is not blank. After a fault nothing is said of the block.
-    pub(crate) fn line<'a>(
+    /// A block ends whose last header line has this number, and that has no record.
+    pub(crate) fn without_record<'a>(
         &self,
-        block: &mut Block<'a>,
-        number: u64,
-        bytes: &[u8],
-    ) -> Result<(), BlockFault>
-        requires { Fits self.now block.old }
-        ensures goes_on { (ignores : Bool) (h : History) → Stands self.now h → BlockGoesOn ignores h (left_behind block.new result) (λ ls close. block_resumed ignores h block.old (record { number = number; bytes = bytes.now } ∷ ls) close) }
-        ensures fits { OnOk result (Fits self.now block.new) }
-    {
-        match &mut block.state {
-            State::Record { reader } => reader.line(&self.points, number, bytes),
-            State::Front { last } => {
-                let last = *last;
-                self.front_line(block, last, number, bytes)
-            }
-            State::Declaration { line: _, reader: _ } => self.declaration_line(
-                block, number, bytes,
-            ),
-            State::Implementors => Ok(()),
-        }
-    }
-
-    // One more line of a block whose record has not begun.
-    fn front_line<'a>(
-        &self,
-        block: &mut Block<'a>,
         last: Option<u64>,
-        number: u64,
-        bytes: &[u8],
-    ) -> Result<(), BlockFault>
-        ensures goes_on { (ignores : Bool) (h : History) → Stands self.now h → BlockGoesOn ignores h (left_behind block.new result) (λ ls close. resumed_by ignores (record h { header = block.old.header }) (State.Front last) (record { number = number; bytes = bytes.now } ∷ ls) close) }
-        ensures fits { OnOk result (Fits self.now block.new) }
-    {
-        if is_comment(bytes) {
-            block.state = State::Front { last };
-            return Ok(());
-        }
-        if is_plainly_sample(&block.header, bytes) {
-            return self.begun_record(block, number, bytes);
-        }
-        match block.header.line(bytes) {
-            Ok(true) => {
-                block.state = State::Front { last: Some(number) };
-                Ok(())
-            }
-            Ok(false) => self.first_line(block, number, bytes),
-            Err(why) => Err(BlockFault::Refused { line: number, why }),
-        }
-    }
-
-    // The first line of a record.
-    fn first_line<'a>(
-        &self,
-        block: &mut Block<'a>,
-        number: u64,
-        bytes: &[u8],
-    ) -> Result<(), BlockFault>
-        ensures goes_on { (ignores : Bool) (h : History) → Stands self.now h → BlockGoesOn ignores h (left_behind block.new result) (λ ls close. after_record ignores (record h { header = block.old.header }) (record { number = number; bytes = bytes.now }) ls close) }
-        ensures fits { OnOk result (Fits self.now block.new) }
-    {
-        if is_declaration(bytes) {
-            return self.begun_declaration(block, number, bytes);
-        }
-        if is_list_of_implementors(bytes) {
-            block.state = State::Implementors;
-            return Ok(());
-        }
-        self.begun_record(block, number, bytes)
-    }
-
-    // The first line of a declaration.
-    #[inline(never)]
-    fn begun_declaration<'a>(
-        &self,
-        block: &mut Block<'a>,
-        number: u64,
-        bytes: &[u8],
-    ) -> Result<(), BlockFault>
-        ensures goes_on { (ignores : Bool) (h : History) → BlockGoesOn ignores h (left_behind block.new result) (λ ls close. after_declaration (record h { header = block.old.header }) (record { number = number; bytes = bytes.now }) ls close) }
-        ensures fits { OnOk result (Fits self.now block.new) }
-    {
-        match DeclBlock::begin(self.alloc, number, bytes, block.header.implicit()) {
-            Ok(reader) => {
-                block.state = State::Declaration {
-                    line: number,
-                    reader,
-                };
-                Ok(())
-            }
-            Err(fault) => Err(fault),
-        }
-    }
-
-    // The first line of a sample record.
-    fn begun_record<'a>(
-        &self,
-        block: &mut Block<'a>,
-        number: u64,
-        bytes: &[u8],
-    ) -> Result<(), BlockFault>
-        ensures goes_on { (ignores : Bool) (h : History) → Stands self.now h → BlockGoesOn ignores h (left_behind block.new result) (λ ls close. after_sample ignores (record h { header = block.old.header }) (record { number = number; bytes = bytes.now }) ls close) }
-        ensures fits { OnOk result (Fits self.now block.new) }
-    {
-        match RecordReader::begin(self.alloc, &self.points, block.arena, number, bytes) {
-            Ok(reader) => {
-                block.state = State::Record { reader };
-                Ok(())
-            }
-            Err(fault) => Err(fault),
-        }
-    }
-
-    // One more line of a declaration.
-    #[inline(never)]
-    fn declaration_line<'a>(
-        &self,
-        block: &mut Block<'a>,
-        number: u64,
-        bytes: &[u8],
-    ) -> Result<(), BlockFault>
-        requires declared { IsDeclared block.old.state }
-        requires fits { Fits self.now block.old }
-        ensures goes_on { (ignores : Bool) (h : History) → BlockGoesOn ignores h (left_behind block.new result) (λ ls close. block_resumed ignores h block.old (record { number = number; bytes = bytes.now } ∷ ls) close) }
-        ensures fits { OnOk result (Fits self.now block.new) }
-    {
-        match replace(&mut block.state, State::Implementors) {
-            State::Declaration { line, reader } => match reader.line(number, bytes) {
-                Ok(reader) => {
-                    block.state = State::Declaration { line, reader };
-                    Ok(())
-                }
-                Err(fault) => Err(fault),
-            },
-            _ => Ok(()),
-        }
-    }
-
-    /// Takes the block, which ends here: what it comes to, if it is one. The line of this number ends it, or the file ends in front of that
-    /// line. An exit without an entry is left out, or refused. A declaration is still to be taken. Nothing is said of the block behind it;
-    /// after a fault nothing is said of the history.
-    pub(crate) fn close<'a>(
-        &mut self,
-        block: &mut Block<'a>,
-        number: u64,
-        ignores: bool,
     ) -> Result<Option<Found<'a>>, BlockFault>
-        requires { Fits self.old block.old }
-        ensures closes { (h : History) → Stands self.old h → Closes (left_with_answer self.new result) (block_resumed ignores h block.old [] (Some number)) }
-        ensures points { self.new.points ≡ self.old.points }
-        ensures fits { IfOk result (λ found. FoundFits self.new.points found) }
-    {
-        self.header = block.header;
-        match &mut block.state {
-            State::Record { reader } => match reader.end(&self.points, number) {
-                Ok(sample) => self.with_record(block.arena, &sample, ignores),
-                Err(fault) => Err(fault),
-            },
-            State::Front { last } => {
-                let last = *last;
-                self.without_record(last)
-            }
-            State::Declaration { line: _, reader: _ } => self.declaration_end(block),
-            State::Implementors => Ok(Some(Found::Nothing)),
-        }
-    }
-
-    // A block ends whose last header line has this number, and that has no record.
-    fn without_record<'a>(&self, last: Option<u64>) -> Result<Option<Found<'a>>, BlockFault>
         ensures closes { (h : History) → Stands self.now h → (close : ℕ) → Closes (left_with_answer self.now result) (without_record h last (Some close)) }
         ensures fits { IfOk result (λ found. FoundFits self.now.points found) }
     {
@@ -336,23 +147,6 @@ impl Kept {
         match header.end() {
             Ok(()) => Ok(Some(Found::Nothing)),
             Err(why) => Err(BlockFault::Refused { line, why }),
-        }
-    }
-
-    // A declaration ends. What it does to the table is done behind the block.
-    #[inline(never)]
-    fn declaration_end<'a>(&self, block: &mut Block<'a>) -> Result<Option<Found<'a>>, BlockFault>
-        requires declared { IsDeclared block.old.state }
-        requires fits { Fits self.now block.old }
-        ensures closes { (ignores : Bool) (h : History) → Stands self.now h → (close : ℕ) → Closes (left_with_answer self.now result) (resumed_by ignores h block.old.state [] (Some close)) }
-        ensures fits { IfOk result (λ found. FoundFits self.now.points found) }
-    {
-        match replace(&mut block.state, State::Implementors) {
-            State::Declaration { line, reader } => match reader.end() {
-                Ok(decl) => Ok(Some(Found::Declaration { line, decl })),
-                Err(fault) => Err(fault),
-            },
-            _ => Ok(Some(Found::Nothing)),
         }
     }
 

@@ -7,6 +7,8 @@
 mod block;
 mod first_lines;
 mod found;
+mod gather;
+mod judging;
 mod kept;
 pub mod laws;
 mod reader;

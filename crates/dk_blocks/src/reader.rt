@@ -10,20 +10,20 @@ ghost use Rattle.dk_blocks.specs.AtHand.{HandCounts, HandGives, IsAtHand};
 ghost use Rattle.dk_blocks.specs.Finding.{FoundFits};
 ghost use Rattle.dk_blocks.specs.Fitting.{ConstantsFit, Extends, HasFittingConstants};
 ghost use Rattle.dk_blocks.specs.History.{History, effect_of, file_ended, nothing_by, with_declaration};
-ghost use Rattle.dk_blocks.specs.Standing.{Fits, IsBetweenFiles, ReaderStandsFor, Stands, block_resumed, file_of, implicit_of, left_behind, left_with_answer, over_of, points_of};
-ghost use Rattle.dk_blocks.specs.LineSteps.{LineGives, EndGives, BlankGives, WordsGive, block_fault_in, fault_in_file, BlockGives, BlockCounts, LineShape, EndShape, ShapeAt, ClosesAt, LineStep, LineStepShape, StepShape, StepGives, StepCounts, line_turn, stop_of_fault, stop_of_unread};
+ghost use Rattle.dk_blocks.specs.Standing.{IsBetweenFiles, ReaderStandsFor, Stands, file_of, implicit_of, left_with_answer, over_of, points_of};
+ghost use Rattle.dk_blocks.specs.BlockSteps.{BlockCounts, BlockGives, block_fault_in, ending_of, fault_in_file};
+ghost use Rattle.dk_blocks.specs.Judging.{Judged};
 ghost use Rattle.dk_blocks.specs.Steps.{DeclareGives, IsInFile, NextBlock, ReaderCounts};
-ghost use Rattle.dk_blocks.specs.Turns.{AfterFits, ending_of, turn_of};
 
-use crate::block::Block;
 use crate::found::Found;
+use crate::gather::{Close, Stop, gather_block, stop_of};
 use crate::kept::Kept;
 use bumpalo::Bump;
-use dk_base::{BlockFault, Fault, NoMemory, Why, trim_blanks};
+use dk_base::{BlockFault, Fault, NoMemory};
 use dk_calls::Calls;
-use dk_decl::PointDecl;
+use dk_decl::{BlockLines, PointDecl};
 use dk_io::Inputs;
-use dk_lines::{LineFault, Lines};
+use dk_lines::Lines;
 use dk_points::{Declared, Points};
 use dk_trace::Whole;
 use std::alloc::Global;
@@ -33,16 +33,10 @@ use std::alloc::Global;
 #[derive(Drop)]
 pub struct Reader {
     pub(crate) kept: Kept,
+    /// Room for the lines of the next block.
+    pub(crate) gathered: BlockLines,
     pub(crate) file: u32,
     pub(crate) is_over: bool,
-}
-
-/// Why a block is not read.
-#[derive(Clone, Copy, Debug, PartialEq, Eq)]
-pub(crate) enum Stop {
-    Refused { line: u64, why: Why },
-    Read,
-    NoMemory,
 }
 
 /// The end of a block, or of a file without one.
@@ -52,186 +46,34 @@ pub(crate) struct End<'a> {
     pub(crate) found: Option<Found<'a>>,
 }
 
-/// What one line does.
-#[derive(Clone, Copy, Debug, PartialEq, Eq)]
-pub(crate) enum Step {
-    /// The block has a line more.
-    More,
-    /// The block ends: at the blank line of this number, or where the file ends in front of it.
-    Ended { number: u64, is_over: bool },
-}
-
-/// What comes of the end of a block's lines: they are no block, and the next one begins; or a block or the file ends.
-#[derive(Drop)]
-pub(crate) enum After<'a> {
-    Goes,
-    Ends(End<'a>),
-}
-
-fn stop_of(fault: BlockFault) -> Stop
-    ensures { result ≡ stop_of_fault fault }
+// What the gathered lines of a block come to, which end here. They go.
+fn judge_gathered<'a>(
+    kept: &mut Kept,
+    arena: &'a Bump,
+    gathered: &mut BlockLines,
+    close: u64,
+    ignores: bool,
+) -> Result<Option<Found<'a>>, Stop>
+    ensures gives { (h : History) → Stands kept.old h → Judged ignores h kept.new gathered.old close result }
+    ensures points { kept.new.points ≡ kept.old.points }
+    ensures fits { IfOk result (λ found. FoundFits kept.new.points found) }
+    ensures never { IsErrOf result Stop.Read → ⊥ }
 {
-    match fault {
-        BlockFault::Refused { line, why } => Stop::Refused { line, why },
-        BlockFault::NoMemory => Stop::NoMemory,
-    }
-}
-
-fn line_stop(fault: LineFault) -> Stop
-    ensures { result ≡ stop_of_unread fault }
-{
-    match fault {
-        LineFault::Read => Stop::Read,
-        LineFault::LongLine { line } => Stop::Refused {
-            line,
-            why: Why::LongLine,
+    let judged = match gathered.numbered() {
+        Ok(lines) => match kept.judge(arena, lines.as_slice(), close, ignores) {
+            Ok(found) => Ok(found),
+            Err(fault) => Err(stop_of(fault)),
         },
-        LineFault::TooLong { line } => Stop::Refused {
-            line,
-            why: Why::TooLong,
-        },
-        LineFault::NoMemory => Stop::NoMemory,
-    }
+        Err(NoMemory) => Err(Stop::NoMemory),
+    };
+    gathered.clear();
+    judged
 }
 
-// The line is blank.
-fn at_blank<'a>(
-    kept: &mut Kept,
-    block: &mut Block<'a>,
-    number: u64,
-    ignores: bool,
-) -> Result<After<'a>, Stop>
-    requires { Fits kept.old block.old }
-    ensures shape { LineShape (turn_of kept.new block.new result) }
-    ensures points { kept.new.points ≡ kept.old.points }
-    ensures fits { AfterFits kept.new.points result }
-    ensures gives { (h : History) → Stands kept.old h → BlankGives ignores (block_resumed ignores h block.old) number (turn_of kept.new block.new result) }
-{
-    match kept.close(block, number, ignores) {
-        Ok(None) => {
-            kept.begin_again(block);
-            Ok(After::Goes)
-        }
-        Ok(Some(found)) => Ok(After::Ends(End {
-            is_over: false,
-            found: Some(found),
-        })),
-        Err(fault) => Err(stop_of(fault)),
-    }
-}
-
-// The file ends in front of the line of this number.
-fn at_end<'a>(
-    kept: &mut Kept,
-    block: &mut Block<'a>,
-    number: u64,
-    ignores: bool,
-) -> Result<After<'a>, Stop>
-    requires { Fits kept.old block.old }
-    ensures shape { EndShape (turn_of kept.new block.new result) }
-    ensures points { kept.new.points ≡ kept.old.points }
-    ensures fits { AfterFits kept.new.points result }
-    ensures gives { (h : History) → Stands kept.old h → EndGives ignores (block_resumed ignores h block.old) number (turn_of kept.new block.new result) }
-{
-    match kept.close(block, number, ignores) {
-        Ok(found) => Ok(After::Ends(End {
-            is_over: true,
-            found,
-        })),
-        Err(fault) => Err(stop_of(fault)),
-    }
-}
-
-// The end of a block: at a blank line, or where the file ends in front of the line of this number.
-fn close_block<'a>(
-    kept: &mut Kept,
-    block: &mut Block<'a>,
-    number: u64,
-    is_over: bool,
-    ignores: bool,
-) -> Result<After<'a>, Stop>
-    requires { Fits kept.old block.old }
-    ensures shape { ShapeAt is_over (turn_of kept.new block.new result) }
-    ensures points { kept.new.points ≡ kept.old.points }
-    ensures fits { AfterFits kept.new.points result }
-    ensures gives { (h : History) → Stands kept.old h → ClosesAt ignores is_over (block_resumed ignores h block.old) number (turn_of kept.new block.new result) }
-{
-    if is_over {
-        at_end(kept, block, number, ignores)
-    } else {
-        at_blank(kept, block, number, ignores)
-    }
-}
-
-// A line that is not blank.
-fn at_words<'a>(kept: &Kept, block: &mut Block<'a>, number: u64, bytes: &[u8]) -> Result<(), Stop>
-    requires { Fits kept.now block.old }
-    ensures fits { OnOk result (Fits kept.now block.new) }
-    ensures shape { LineShape (line_turn kept.now (left_behind block.new result)) }
-    ensures gives { (ignores : Bool) (h : History) → Stands kept.now h → WordsGive ignores (block_resumed ignores h block.old) (record { number = number; bytes = bytes.now }) (line_turn kept.now (left_behind block.new result)) }
-{
-    match kept.line(block, number, bytes) {
-        Ok(()) => Ok(()),
-        Err(fault) => Err(stop_of(fault)),
-    }
-}
-
-// A line of the file.
-fn with_line<'a>(
-    kept: &Kept,
-    block: &mut Block<'a>,
-    number: u64,
-    bytes: &[u8],
-) -> Result<Step, Stop>
-    requires { Fits kept.now block.old }
-    ensures shape { LineStepShape kept.now block.old block.new result }
-    ensures gives { (ignores : Bool) (h : History) → Stands kept.now h → LineStep ignores kept.now block.new (block_resumed ignores h block.old) (record { number = number; bytes = bytes.now }) result }
-{
-    let words = trim_blanks(bytes);
-    if words.is_empty() {
-        return Ok(Step::Ended {
-            number,
-            is_over: false,
-        });
-    }
-    match at_words(kept, block, number, words) {
-        Ok(()) => Ok(Step::More),
-        Err(stop) => Err(stop),
-    }
-}
-
-// Reads one line.
-fn take_line<'a, I: Inputs>(
-    kept: &Kept,
-    block: &mut Block<'a>,
-    inputs: &mut I,
-    lines: &mut Lines,
-) -> Result<Step, Stop>
-    requires started { lines.old.is_started ≡ true }
-    requires fits { Fits kept.now block.old }
-    ensures shape { StepShape kept.now block.old block.new result }
-    ensures gives { (ignores : Bool) (h : History) → Stands kept.now h → IfSome (left_of lines.old (I.rest inputs.old))
-        (λ xs. StepGives ignores kept.now block.new (block_resumed ignores h block.old) lines.old xs result lines.new (left_of lines.new (I.rest inputs.new))) }
-    ensures counts { StepCounts lines.old result lines.new }
-    ensures emptied { IsErrOf result Stop.Read → lines.new.ahead ≡ [] }
-    ensures files { I.file inputs.new ≡ I.file inputs.old }
-    ensures later { I.faults inputs.old ≤ I.faults inputs.new }
-    ensures cause { IsErrOf result Stop.Read → Rose (I.faults inputs.old) (I.faults inputs.new) }
-{
-    let next = lines.next_number();
-    match lines.next(inputs) {
-        Ok(Some(line)) => with_line(kept, block, line.number, line.bytes),
-        Ok(None) => Ok(Step::Ended {
-            number: next,
-            is_over: true,
-        }),
-        Err(fault) => Err(line_stop(fault)),
-    }
-}
-
-// Reads up to the end of the next block. The values of its record lie in the arena, which gives no memory before the first of them.
+// Reads up to the end of the next block. Lines that are no block are passed over. The values of its record lie in the arena.
 fn read_block<'a, I: Inputs>(
     kept: &mut Kept,
+    gathered: &mut BlockLines,
     arena: &'a Bump,
     inputs: &mut I,
     lines: &mut Lines,
@@ -248,17 +90,28 @@ fn read_block<'a, I: Inputs>(
     ensures later { I.faults inputs.old ≤ I.faults inputs.new }
     ensures cause { IsErrOf result Stop.Read → Rose (I.faults inputs.old) (I.faults inputs.new) }
 {
-    let mut block = kept.begin(arena);
-    'reading: loop {
-        match take_line(kept, &mut block, inputs, lines) {
-            Ok(Step::More) => continue 'reading,
-            Ok(Step::Ended { number, is_over }) => match close_block(
-                kept, &mut block, number, is_over, ignores,
-            ) {
-                Ok(After::Goes) => continue 'reading,
-                Ok(After::Ends(end)) => return Ok(end),
-                Err(stop) => return Err(stop),
-            },
+    'groups: loop {
+        gathered.clear();
+        match gather_block(kept, inputs, lines, gathered) {
+            Ok(Close { number, is_over }) => {
+                match judge_gathered(kept, arena, gathered, number, ignores) {
+                    Ok(Some(found)) => {
+                        return Ok(End {
+                            is_over,
+                            found: Some(found),
+                        });
+                    }
+                    Ok(None) => {
+                        if is_over {
+                            return Ok(End {
+                                is_over,
+                                found: None,
+                            });
+                        }
+                    }
+                    Err(stop) => return Err(stop),
+                }
+            }
             Err(stop) => return Err(stop),
         }
     }
@@ -311,6 +164,7 @@ fn record_at_hand<'a>(
 // Reads up to the end of the next block, in the bytes at hand where it is a record that stands whole there.
 fn next_block<'a, I: Inputs>(
     kept: &mut Kept,
+    gathered: &mut BlockLines,
     arena: &'a Bump,
     inputs: &mut I,
     lines: &mut Lines,
@@ -332,7 +186,7 @@ fn next_block<'a, I: Inputs>(
             is_over: false,
             found: Some(found),
         }),
-        Ok(None) => read_block(kept, arena, inputs, lines, ignores),
+        Ok(None) => read_block(kept, gathered, arena, inputs, lines, ignores),
         Err(stop) => Err(stop),
     }
 }
@@ -366,6 +220,7 @@ impl Reader {
     {
         Ok(Reader {
             kept: Kept::new(alloc)?,
+            gathered: BlockLines::new(alloc),
             file: 0,
             is_over: false,
         })
@@ -382,6 +237,7 @@ impl Reader {
         let calls = Calls::new(alloc)?;
         Ok(Reader {
             kept: Kept::of_table(alloc, points, implicit, calls),
+            gathered: BlockLines::new(alloc),
             file: 0,
             is_over: false,
         })
@@ -414,7 +270,14 @@ impl Reader {
         if self.is_over {
             return Ok(None);
         }
-        match next_block(&mut self.kept, arena, inputs, lines, ignores) {
+        match next_block(
+            &mut self.kept,
+            &mut self.gathered,
+            arena,
+            inputs,
+            lines,
+            ignores,
+        ) {
             Ok(end) => {
                 self.is_over = end.is_over;
                 Ok(end.found)
@@ -435,6 +298,7 @@ impl Reader {
     {
         let Reader {
             kept,
+            gathered,
             file,
             is_over,
         } = self;
@@ -442,6 +306,7 @@ impl Reader {
             Ok((kept, declared)) => Ok((
                 Reader {
                     kept,
+                    gathered,
                     file,
                     is_over,
                 },

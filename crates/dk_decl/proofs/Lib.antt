@@ -3,5 +3,6 @@ pub mod LastLines
 pub mod PastLines
 pub mod LastWord
 pub mod ByPosition
-pub mod Unfaulted
+pub mod FirstFaults
+pub mod VarGroups
 mod Examples

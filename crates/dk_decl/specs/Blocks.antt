@@ -1,12 +1,10 @@
 -- The declaration of a block, in either form.
-use Rattle.std.specs.Prelude.{Bool, codes, if◌then◌else◌}
+use Rattle.std.specs.Prelude.{◌++◌, Bool, codes, if◌then◌else◌}
 use Rattle.std.specs.Str.{bytes_eq}
 use Rattle.dk_base.specs.Reading.{Line, Reads}
-use Rattle.dk_decl.specs.DeclareBlock.{declare_lines, declare_resumed}
-use Rattle.dk_decl.specs.PptBlock.{ppt_of, ppt_resumed}
+use Rattle.dk_decl.specs.DeclareBlock.{declare_lines}
+use Rattle.dk_decl.specs.PptBlock.{ppt_of}
 use Rattle.dk_decl.specs.declared.block.DeclBlock.{DeclBlock}
-use Rattle.dk_decl.specs.declared.block.BlockForm.{BlockForm}
-use Rattle.dk_decl.specs.declared.block.BlockForm.TheVariants.{Ppt, Declare}
 use Rattle.dk_decl.specs.declared.decls.PointDecl.{PointDecl}
 
 -- the whole line `DECLARE`
@@ -20,10 +18,6 @@ block_decl implicit first ls close =
     if is_declare first then declare_lines implicit first.number ls close
     else ppt_of implicit first ls close
 
-abbrev pub resumed_in : Bool → BlockForm → Reads PointDecl
-resumed_in implicit (Ppt b) ls close = ppt_resumed implicit b ls close
-resumed_in implicit (Declare b) ls close = declare_resumed implicit b ls close
-
 -- what a block that has been read so far declares, together with the lines that are left
 unfoldable pub decl_resumed : DeclBlock → Reads PointDecl
-decl_resumed b ls close = resumed_in b.implicit b.form ls close
+decl_resumed b ls close = block_decl b.implicit (record { number = b.number; bytes = b.first }) (b.rest ++ ls) close

@@ -1,23 +1,22 @@
 -- A declaration that begins with `DECLARE`, whose lines are read by their positions.
-use Rattle.std.specs.Prelude.{◌++◌, ℕ, Bool, true, false, List, [], ◌∷◌, codes, is_some, Option, Some, None, Result, Ok, if◌then◌else◌}
+use Rattle.std.specs.Prelude.{◌≡◌, ◌++◌, ℕ, Bool, true, false, List, [], ◌∷◌, codes, is_some, map, Option, Some, None, Result, Ok, Err, if◌then◌else◌}
+use Rattle.std.specs.Borrow.{Bor}
 use Rattle.dk_base.specs.Names.{unescaped}
 use Rattle.dk_base.specs.Pieces.{is_empty}
 use Rattle.dk_base.specs.Reading.{Line, LineFault, ◌>>=◌, Reads}
 use Rattle.dk_base.specs.Words.{first_word}
 use Rattle.dk_base.specs.declared.kinds.Compar.{Compar}
+use Rattle.dk_base.specs.declared.faults.BlockFault.{BlockFault}
 use Rattle.dk_base.specs.declared.values.Value.{Value}
 use Rattle.dk_base.specs.declared.why.Why.TheVariants.{BadPoint, BadVariable}
 use Rattle.dk_decl.specs.Brackets.{compar_of, no_compar}
 use Rattle.dk_decl.specs.LineWords.{begins, operand}
-use Rattle.dk_decl.specs.Outcomes.{refused, or_refused}
+use Rattle.dk_decl.specs.BlockLines.{line_of}
+use Rattle.dk_decl.specs.Outcomes.{FaultAgrees, refused, or_refused}
 use Rattle.dk_decl.specs.Types.{constant_at, rep_kind, rep_type_of}
 use Rattle.dk_decl.specs.VarNames.{has_name}
 use Rattle.dk_decl.specs.declared.decls.VarDecl.{VarDecl}
 use Rattle.dk_decl.specs.declared.decls.PointDecl.{PointDecl}
-use Rattle.dk_decl.specs.declared.declare.DeclareBlock.{DeclareBlock}
-use Rattle.dk_decl.specs.declared.declare.DeclareBlock.TheVariants.{Begun, Going}
-use Rattle.dk_decl.specs.declared.declare.NextLine.{NextLine}
-use Rattle.dk_decl.specs.declared.declare.NextLine.TheVariants.{AtName, AtType, AtRepresentation, AtComparability}
 use Rattle.dk_decl.specs.declared.declare.Represented.{Represented}
 use Rattle.dk_decl.specs.declared.types.RepType.{RepType}
 use Rattle.dk_decl.specs.declared.types.Placed.{Placed}
@@ -90,13 +89,10 @@ declare_lines implicit first [] None = Ok (record { name = []; edges = []; vars 
 declare_lines implicit first [] (Some close) = refused BadPoint first
 declare_lines implicit first (l ∷ ls) close = named_point (unescaped l.bytes) (from_name implicit [] ls close)
 
-abbrev pub from_next_line : Bool → List VarDecl → NextLine → Reads (List VarDecl)
-from_next_line implicit vs AtName ls close = from_name implicit vs ls close
-from_next_line implicit vs (AtType line name) ls close = from_type implicit vs line name ls close
-from_next_line implicit vs (AtRepresentation line name) ls close = from_representation implicit vs line name ls close
-from_next_line implicit vs (AtComparability line name r) ls close = from_comparability implicit vs line name r ls close
-
--- what a block that has been read so far declares, together with the lines that are left
-unfoldable pub declare_resumed : Bool → DeclareBlock → Reads PointDecl
-declare_resumed implicit (Begun first) ls close = declare_lines implicit first ls close
-declare_resumed implicit (Going name vs place) ls close = named_point name (from_next_line implicit vs place ls close)
+-- What is read of the variable whose name stands in the first of these lines, at this number: it and what follows it, or that its lines are
+-- not all there, or its first fault.
+abbrev pub VariableRead : Bool → List VarDecl → List Line → ℕ → Result (Option (VarDecl × Bor (List (ℕ × Bor (List ℕ))))) BlockFault → Type 0
+VariableRead implicit vs ls line (Ok (Some r)) =
+    (close : Option ℕ) → from_name implicit vs ls close ≡ from_name implicit (vs ++ r.0 ∷ []) (map line_of r.1.now) close
+VariableRead implicit vs ls line (Ok None) = (close : Option ℕ) → from_name implicit vs ls close ≡ cut_short vs line close
+VariableRead implicit vs ls line (Err fault) = (close : Option ℕ) → FaultAgrees fault (from_name implicit vs ls close)

@@ -1,7 +1,7 @@
 -- What the lines of a block come to, in the words of the format.
 use Rattle.std.specs.Prelude.{◌≡◌, ℕ, Bool, List, [], codes, filter, flat_map, is_some, unwrap_or, option_and_then, option_map, Option, Some, None, Ok, if◌then◌else◌}
-use Rattle.std.specs.Borrow.{Bor}
 use Rattle.std.specs.List.{AllZip, last_or}
+pub use Rattle.dk_decl.specs.BlockLines.{line_of}
 use Rattle.dk_base.specs.Names.{unescaped}
 use Rattle.dk_base.specs.Reading.{Line}
 use Rattle.dk_base.specs.declared.kinds.Compar.{Compar}
@@ -16,9 +16,6 @@ use Rattle.dk_decl.specs.declared.decls.VarDecl.{VarDecl}
 use Rattle.dk_decl.specs.declared.decls.PointDecl.{PointDecl}
 use Rattle.dk_decl.specs.declared.types.RepType.{RepType}
 use Rattle.dk_decl.specs.declared.types.Placed.{Placed}
-
-abbrev pub line_of : ℕ × Bor (List ℕ) → Line
-line_of l = record { number = l.0; bytes = l.1.now }
 
 -- the lines with this first word
 abbrev pub lines_of : List ℕ → List Line → List Line

@@ -1,5 +1,6 @@
 -- cited by public clauses
 pub mod Outcomes
+pub mod BlockLines
 pub mod Headers
 pub mod Blocks
 pub mod Laws

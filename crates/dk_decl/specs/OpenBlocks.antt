@@ -1,7 +1,9 @@
--- Faults come at the line that makes them: a block that is still read has none.
-use Rattle.std.specs.Prelude.{[], None, IsOk}
-use Rattle.dk_decl.specs.Blocks.{decl_resumed}
-use Rattle.dk_decl.specs.declared.block.DeclBlock.{DeclBlock}
+-- Faults come at the line that makes them.
+use Rattle.std.specs.Prelude.{Bool}
+use Rattle.dk_base.specs.Reading.{Line}
+use Rattle.dk_decl.specs.Blocks.{block_decl}
+use Rattle.dk_decl.specs.Outcomes.{FaultsStay}
 
-abbrev pub NoFaultYet : Type 0
-NoFaultYet = (b : DeclBlock) → IsOk (decl_resumed b [] None)
+-- what is wrong with the first lines of a declaration is wrong with all of them, whatever follows
+abbrev pub FirstFaultsStay : Type 0
+FirstFaultsStay = (implicit : Bool) (first : Line) → FaultsStay (block_decl implicit first)

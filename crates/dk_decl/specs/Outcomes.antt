@@ -1,5 +1,5 @@
 -- What a call that reads lines answers, against what reading the lines gives.
-use Rattle.std.specs.Prelude.{◌≡◌, ℕ, List, Option, Some, None, Result, Ok, Err}
+use Rattle.std.specs.Prelude.{◌≡◌, ◌++◌, ℕ, List, Option, Some, None, Result, Ok, Err}
 use Rattle.dk_base.specs.Reading.{Line, LineFault, Reads}
 use Rattle.dk_base.specs.declared.why.Why.{Why}
 use Rattle.dk_base.specs.declared.faults.BlockFault.{BlockFault}
@@ -33,3 +33,8 @@ FaultAgreesOnward NoMemory read = Unit {0}
 abbrev pub ReaderGoesOn : {A B : Type 0} → (B → Reads A) → Result B BlockFault → Reads A → Type 0
 ReaderGoesOn resumed (Ok b) read = (ls : List Line) (close : Option ℕ) → read ls close ≡ resumed b ls close
 ReaderGoesOn resumed (Err e) read = FaultAgreesOnward e read
+
+-- a fault of the first lines is that of all, whatever follows them
+abbrev pub FaultsStay : {A : Type 0} → Reads A → Type 0
+FaultsStay read = (front more : List Line) (close : Option ℕ) (fault : LineFault) → read front None ≡ Err fault
+    → read (front ++ more) close ≡ Err fault

@@ -11,7 +11,6 @@ use Rattle.dk_decl.specs.Variables.{open_var, var_decl_of, var_line}
 use Rattle.dk_decl.specs.declared.decls.EdgeDecl.{EdgeDecl}
 use Rattle.dk_decl.specs.declared.decls.VarDecl.{VarDecl}
 use Rattle.dk_decl.specs.declared.decls.PointDecl.{PointDecl}
-use Rattle.dk_decl.specs.declared.ppt.PptBlock.{PptBlock}
 use Rattle.dk_decl.specs.declared.variables.OpenVar.{OpenVar}
 
 -- a `variable` line
@@ -57,14 +56,3 @@ point_name l = if is_empty (operand l.bytes) then refused BadPoint l.number else
 -- the declaration, or its first fault
 unfoldable pub ppt_of : Bool → Line → Reads PointDecl
 ppt_of implicit first ls close = point_name first >>= λ name. ppt_lines implicit name ls close
-
--- what a block that has been read so far declares, together with the lines that are left
-abbrev pub ppt_at : Bool → PptBlock → Option OpenVar → Reads PointDecl
-ppt_at implicit b None ls close =
-    each_line head_line b.edges (groups ls).0 >>= λ es. point_with b.name es (vars_after implicit es b.vars (groups ls).1 close)
-ppt_at implicit b (Some o) ls close =
-    each_line (var_line implicit b.edges) o (groups ls).0 >>= λ w. point_with b.name b.edges
-    (with_var b.vars w (has_ended (groups ls).1 close) >>= λ vs. vars_after implicit b.edges vs (groups ls).1 close)
-
-unfoldable pub ppt_resumed : Bool → PptBlock → Reads PointDecl
-ppt_resumed implicit b ls close = ppt_at implicit b b.current ls close

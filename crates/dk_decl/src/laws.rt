@@ -3,7 +3,7 @@ ghost use Rattle.std.specs.Prelude.{map, Some, ℕ};
 ghost use Rattle.dk_decl.specs.Blocks.{block_decl};
 ghost use Rattle.dk_decl.specs.HeaderLaw.{LastWordHolds};
 ghost use Rattle.dk_decl.specs.Laws.{LastLinesCount, line_of};
-ghost use Rattle.dk_decl.specs.OpenBlocks.{NoFaultYet};
+ghost use Rattle.dk_decl.specs.OpenBlocks.{FirstFaultsStay};
 ghost use Rattle.dk_decl.specs.Positions.{LinesCountByPosition};
 ghost use Rattle.dk_decl.specs.ReadPast.{CommentsAreReadPast, OtherLinesAreReadPast};
 ghost use Rattle.dk_decl.specs.Outcomes.{AnswerAgrees};
@@ -55,7 +55,7 @@ pub fn last_word_holds()
     ensures { LastWordHolds }
 {}
 
-/// A block that is still read has no fault: what was found was refused at its line.
-pub fn no_fault_yet()
-    ensures { NoFaultYet }
+/// A fault of the first lines of a declaration is that of all of them, whatever follows: so it can be told at its line.
+pub fn first_faults_stay()
+    ensures { FirstFaultsStay }
 {}

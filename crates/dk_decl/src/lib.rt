@@ -6,6 +6,7 @@
 #![tactic(auto)]
 
 mod block;
+mod block_lines;
 mod brackets;
 mod declare;
 mod decls;
@@ -19,6 +20,7 @@ mod types;
 mod variables;
 mod vars;
 
-pub use block::DeclBlock;
+pub use block::{DeclBlock, read_declaration};
+pub use block_lines::BlockLines;
 pub use decls::{EdgeDecl, ParentVar, PointDecl, VarDecl};
 pub use header::Header;

@@ -1,7 +1,11 @@
 // A declaration that begins with `ppt`.
-ghost use Rattle.std.specs.Prelude.{◌≡◌, [], ◌∷◌, true, false, ℕ, Bool, List, Option};
-ghost use Rattle.dk_base.specs.Reading.{Line};
+ghost use Rattle.std.specs.Prelude.{◌≡◌, ◌≤◌, [], ◌∷◌, ℕ, Option, is_some, length, map, true};
+ghost use Rattle.dk_decl.specs.BlockLines.{line_of};
+ghost use Rattle.dk_decl.specs.LineWords.{each_line};
+ghost use Rattle.dk_decl.specs.Heads.{head_line};
 ghost use Rattle.dk_decl.specs.Outcomes.{AnswerAgrees};
+ghost use Rattle.dk_decl.specs.PptBlock.{groups, is_variable, point_name, ppt_of, vars_after, with_var};
+ghost use Rattle.dk_decl.specs.Variables.{var_line};
 
 use crate::decls::{EdgeDecl, PointDecl};
 use crate::heads::head_line;
@@ -12,174 +16,117 @@ use crate::vars::Vars;
 use dk_base::{BlockFault, List, Text, unescape};
 use std::alloc::Global;
 
-/// The front of a block that begins with `ppt`.
-#[derive(Drop)]
-pub(crate) struct PptBlock {
-    pub(crate) name: Text,
-    pub(crate) edges: List<EdgeDecl>,
-    pub(crate) vars: Vars,
-    pub(crate) current: Option<OpenVar>,
+// The point's name, by the first line.
+#[tactic(auto, unfolding(crate::specs::PptBlock::point_name))]
+fn point_name(alloc: Global, line: u64, bytes: &[u8]) -> Result<Text, BlockFault>
+    ensures { AnswerAgrees result (point_name (record { number = line; bytes = bytes.now })) }
+{
+    let rest = operand(bytes);
+    if rest.is_empty() {
+        return Err(bad_point(line));
+    }
+    in_memory(unescape(alloc, rest))
 }
 
-impl PptBlock {
-    ghost use Rattle.dk_decl.specs.Outcomes.{ReaderGoesOn};
-    ghost use Rattle.dk_decl.specs.PptBlock.{is_variable, point_name, ppt_lines, ppt_of, ppt_resumed, with_var};
+#[tactic(auto, unfolding(crate::specs::PptBlock::is_variable))]
+fn is_variable(line: u64, bytes: &[u8]) -> bool
+    ensures { result ≡ is_variable (record { number = line; bytes = bytes.now }) }
+{
+    begins(b"variable", bytes)
+}
 
-    // The point's name, by the first line.
-    #[tactic(auto, unfolding(crate::specs::PptBlock::point_name))]
-    fn point_name(alloc: Global, line: u64, bytes: &[u8]) -> Result<Text, BlockFault>
-        ensures { AnswerAgrees result (point_name (record { number = line; bytes = bytes.now })) }
-    {
-        let rest = operand(bytes);
-        if rest.is_empty() {
-            return Err(bad_point(line));
+// The lines in front of the first `variable` line, and those from it on.
+fn own_lines<'b>(lines: &'b [(u64, &'b [u8])]) -> (&'b [(u64, &'b [u8])], &'b [(u64, &'b [u8])])
+    ensures own { map line_of result.0.now ≡ (groups (map line_of lines.now)).0 }
+    ensures others { groups (map line_of result.1.now) ≡ ([], (groups (map line_of lines.now)).1) }
+    ensures shorter { length result.1.now ≤ length lines.now }
+{
+    let len = lines
+        .iter()
+        .position(|line| is_variable(line.0, line.1))
+        .unwrap_or(lines.len());
+    lines.split_at(len)
+}
+
+// The edges that the lines in front of the first variable declare.
+fn read_heads(alloc: Global, lines: &[(u64, &[u8])]) -> Result<List<EdgeDecl>, BlockFault>
+    ensures { AnswerAgrees result (each_line head_line [] (map line_of lines.now)) }
+{
+    let mut edges = List::new(alloc);
+    for line in lines {
+        edges = head_line(alloc, edges, line.0, line.1)?;
+    }
+    Ok(edges)
+}
+
+// A variable with its lines.
+fn read_lines(
+    alloc: Global,
+    implicit: bool,
+    edges: &List<EdgeDecl>,
+    opened: OpenVar,
+    lines: &[(u64, &[u8])],
+) -> Result<OpenVar, BlockFault>
+    ensures { AnswerAgrees result (each_line (var_line implicit edges.now) opened (map line_of lines.now)) }
+{
+    let mut var = opened;
+    for line in lines {
+        var = var_line(alloc, implicit, edges, var, line.0, line.1)?;
+    }
+    Ok(var)
+}
+
+// The variables and one that ends behind them.
+fn with_var(alloc: Global, vars: Vars, ended: OpenVar) -> Result<Vars, BlockFault>
+    ensures { AnswerAgrees result (with_var vars ended true) }
+{
+    let var = close_var(alloc, ended)?;
+    in_memory(vars.with(var))
+}
+
+// The variables of these lines, which begin with a `variable` line. The last one ends where the block is closed.
+fn read_vars<'b>(
+    alloc: Global,
+    implicit: bool,
+    edges: &List<EdgeDecl>,
+    lines: &'b [(u64, &'b [u8])],
+    is_closed: bool,
+) -> Result<Vars, BlockFault>
+    requires { (groups (map line_of lines.now)).0 ≡ [] }
+    ensures { (close : Option ℕ) → is_some close ≡ is_closed → AnswerAgrees result (vars_after implicit edges.now [] (groups (map line_of lines.now)).1 close) }
+{
+    let mut vars = Vars::new(alloc);
+    let mut left = lines;
+    'vars: while let [first, behind @ ..] = left {
+        let (own, others) = own_lines(behind);
+        let opened = open_var(alloc, &vars, first.0, first.1)?;
+        let var = read_lines(alloc, implicit, edges, opened, own)?;
+        if is_closed || !others.is_empty() {
+            vars = with_var(alloc, vars, var)?;
         }
-        in_memory(unescape(alloc, rest))
+        left = others;
     }
+    Ok(vars)
+}
 
-    // A block of which the first line was read.
-    #[tactic(auto, unfolding(crate::specs::PptBlock::ppt_lines, crate::specs::PptBlock::ppt_resumed))]
-    fn of_name(alloc: Global, name: Text) -> PptBlock
-        ensures { (implicit : Bool) (ls : List Line) (close : Option ℕ) → ppt_lines implicit name ls close ≡ ppt_resumed implicit result ls close }
-    {
-        PptBlock {
-            name,
-            edges: List::new(alloc),
-            vars: Vars::new(alloc),
-            current: None,
-        }
-    }
-
-    /// A block that begins with this line.
-    #[tactic(auto, unfolding(crate::specs::PptBlock::ppt_of))]
-    pub(crate) fn begin(alloc: Global, line: u64, bytes: &[u8]) -> Result<PptBlock, BlockFault>
-        ensures { (implicit : Bool) → ReaderGoesOn (ppt_resumed implicit) result (ppt_of implicit (record { number = line; bytes = bytes.now })) }
-    {
-        let name = PptBlock::point_name(alloc, line, bytes)?;
-        Ok(PptBlock::of_name(alloc, name))
-    }
-
-    #[tactic(auto, unfolding(crate::specs::PptBlock::is_variable))]
-    fn is_variable(line: u64, bytes: &[u8]) -> bool
-        ensures { result ≡ is_variable (record { number = line; bytes = bytes.now }) }
-    {
-        begins(b"variable", bytes)
-    }
-
-    // The variables with the one that ends here.
-    #[tactic(auto, unfolding(crate::specs::PptBlock::with_var))]
-    fn with_var(alloc: Global, vars: Vars, current: OpenVar) -> Result<Vars, BlockFault>
-        ensures { AnswerAgrees result (with_var vars current true) }
-    {
-        let ended = close_var(alloc, current)?;
-        in_memory(vars.with(ended))
-    }
-
-    /// The block with one line more.
-    pub(crate) fn line(
-        self,
-        alloc: Global,
-        implicit: bool,
-        line: u64,
-        bytes: &[u8],
-    ) -> Result<PptBlock, BlockFault>
-        ensures { ReaderGoesOn (ppt_resumed implicit) result (λ ls. ppt_resumed implicit self (record { number = line; bytes = bytes.now } ∷ ls)) }
-    {
-        if PptBlock::is_variable(line, bytes) {
-            self.next_variable(alloc, implicit, line, bytes)
-        } else {
-            self.other_line(alloc, implicit, line, bytes)
-        }
-    }
-
-    // A `variable` line ends the variable in front of it, and opens another.
-    #[tactic(auto, unfolding(crate::specs::PptBlock::ppt_resumed))]
-    fn next_variable(
-        self,
-        alloc: Global,
-        implicit: bool,
-        line: u64,
-        bytes: &[u8],
-    ) -> Result<PptBlock, BlockFault>
-        requires { is_variable (record { number = line; bytes = bytes.now }) ≡ true }
-        ensures { ReaderGoesOn (ppt_resumed implicit) result (λ ls. ppt_resumed implicit self (record { number = line; bytes = bytes.now } ∷ ls)) }
-    {
-        let PptBlock {
-            name,
-            edges,
-            mut vars,
-            current,
-        } = self;
-        if let Some(ended) = current {
-            vars = PptBlock::with_var(alloc, vars, ended)?;
-        }
-        let current = open_var(alloc, &vars, line, bytes)?;
-        Ok(PptBlock {
-            name,
-            edges,
-            vars,
-            current: Some(current),
-        })
-    }
-
-    // Another line is one of the variable, or stands in front of the first.
-    #[tactic(auto, unfolding(crate::specs::PptBlock::ppt_resumed))]
-    fn other_line(
-        self,
-        alloc: Global,
-        implicit: bool,
-        line: u64,
-        bytes: &[u8],
-    ) -> Result<PptBlock, BlockFault>
-        requires { is_variable (record { number = line; bytes = bytes.now }) ≡ false }
-        ensures { ReaderGoesOn (ppt_resumed implicit) result (λ ls. ppt_resumed implicit self (record { number = line; bytes = bytes.now } ∷ ls)) }
-    {
-        let PptBlock {
-            name,
-            edges,
-            vars,
-            current,
-        } = self;
-        match current {
-            None => {
-                let edges = head_line(alloc, edges, line, bytes)?;
-                Ok(PptBlock {
-                    name,
-                    edges,
-                    vars,
-                    current: None,
-                })
-            }
-            Some(current) => {
-                let current = var_line(alloc, implicit, &edges, current, line, bytes)?;
-                Ok(PptBlock {
-                    name,
-                    edges,
-                    vars,
-                    current: Some(current),
-                })
-            }
-        }
-    }
-
-    /// The block's end, which ends the last variable.
-    #[tactic(auto, unfolding(crate::specs::PptBlock::ppt_resumed))]
-    pub(crate) fn end(self, alloc: Global) -> Result<PointDecl, BlockFault>
-        ensures { (implicit : Bool) (close : ℕ) → AnswerAgrees result (ppt_resumed implicit self [] (Some close)) }
-    {
-        let PptBlock {
-            name,
-            edges,
-            mut vars,
-            current,
-        } = self;
-        if let Some(last) = current {
-            vars = PptBlock::with_var(alloc, vars, last)?;
-        }
-        Ok(PointDecl {
-            name,
-            edges,
-            vars: vars.into_list(),
-        })
-    }
+/// What a block declares that begins with a `ppt` line.
+#[tactic(auto, unfolding(crate::specs::PptBlock::ppt_of, crate::specs::PptBlock::ppt_lines))]
+pub(crate) fn read_ppt(
+    alloc: Global,
+    implicit: bool,
+    first: (u64, &[u8]),
+    rest: &[(u64, &[u8])],
+    is_closed: bool,
+) -> Result<PointDecl, BlockFault>
+    ensures { (close : Option ℕ) → is_some close ≡ is_closed → AnswerAgrees result (ppt_of implicit (line_of first.entry) (map line_of rest.now) close) }
+{
+    let name = point_name(alloc, first.0, first.1)?;
+    let (heads, others) = own_lines(rest);
+    let edges = read_heads(alloc, heads)?;
+    let vars = read_vars(alloc, implicit, &edges, others, is_closed)?;
+    Ok(PointDecl {
+        name,
+        edges,
+        vars: vars.into_list(),
+    })
 }

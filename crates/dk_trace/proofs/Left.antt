@@ -1,15 +1,12 @@
 -- The variables that are left.
 use Rattle.std.proofs.Common.{◌≡◌, ◌∙◌, ◌<◌, ◌+◌, ◌++◌, ℕ, zero, suc, List, [], ◌∷◌, length, drop, Option, Some, None, Bool, true, false, Result, Ok, Err, refl, sym, ap, if◌then◌else◌, arith}
 use Rattle.std.specs.Prelude.{IfSome, slice_get}
-use Rattle.dk_base.specs.Reading.{Line, LineFault, ◌>>=◌}
-use Rattle.dk_base.specs.declared.faults.BlockFault.{BlockFault}
-use Rattle.dk_base.specs.declared.faults.BlockFault.TheVariants.{Refused, NoMemory}
-use Rattle.dk_base.specs.declared.kinds.Kind.{Kind}
+use Rattle.dk_base.specs.Reading.{Line, LineFault}
 use Rattle.dk_base.specs.declared.values.Value.{Value}
-use Rattle.dk_base.specs.declared.why.Why.TheVariants.{ExtraLine, Truncated}
-use Rattle.dk_decl.specs.Outcomes.{AnswerAgrees, ReaderGoesOn, refused}
+use Rattle.dk_base.specs.declared.why.Why.TheVariants.{ExtraLine}
+use Rattle.dk_decl.specs.Outcomes.{refused}
 use Rattle.dk_decl.specs.declared.decls.VarDecl.{VarDecl}
-use Rattle.dk_trace.specs.Values.{IsTold, from_name, from_value, known_values, named_kind, record_values, then_values}
+use Rattle.dk_trace.specs.Values.{IsTold, from_name, known_values, record_values, then_values}
 use Rattle.dk_trace.proofs.Joined.{then_values_append}
 
 -- without a variable no line is read
@@ -51,14 +48,6 @@ pub told_next : (vs : List VarDecl) (i : ℕ) (v : VarDecl) (ls : List Line) (cl
 told_next vs i v ls close told at = let next : suc i ≡ i + 1 = omega arith in
     next_told vs i v ls close told at ∙ ap (λ (k : ℕ). from_name v (record_values (drop k vs)) ls close) next
 
-pub goes_on_named : (vs : List VarDecl) (i : ℕ) (v : VarDecl) (l : Line) (r : Result (Option Kind) BlockFault) → IfSome (slice_get vs i) IsTold → slice_get vs i ≡ Some v
-    → AnswerAgrees r (named_kind v l) → ReaderGoesOn (λ k. from_value k (record_values (drop (i + 1) vs))) r (λ ls. record_values (drop i vs) (l ∷ ls))
-goes_on_named vs i v l (Ok k) told at given = λ (ls : List Line) (close : Option ℕ).
-    told_next vs i v (l ∷ ls) close told at ∙ ap (λ (r : Result (Option Kind) LineFault). r >>= λ k. from_value k (record_values (drop (i + 1) vs)) ls close) given
-goes_on_named vs i v l (Err (Refused line why)) told at given = λ (ls : List Line) (close : Option ℕ).
-    told_next vs i v (l ∷ ls) close told at ∙ ap (λ (r : Result (Option Kind) LineFault). r >>= λ k. from_value k (record_values (drop (i + 1) vs)) ls close) given
-goes_on_named vs i v l (Err NoMemory) told at given = tt
-
 -- a constant goes behind the values in front of it
 pub constant_next : (vs : List VarDecl) (i : ℕ) (v : VarDecl) (front more : List Value) (ls : List Line) (close : Option ℕ)
     → slice_get vs i ≡ Some v → v.constant_line ≡ true → more ≡ front ++ known_values v.constant
@@ -68,10 +57,3 @@ constant_next vs i v front more ls close at has joined = let next : suc i ≡ i 
     ∙ then_values_append front (known_values v.constant) (record_values (drop (suc i) vs) ls close)
     ∙ ap (λ (xs : List Value). then_values xs (record_values (drop (suc i) vs) ls close)) (sym joined)
     ∙ ap (λ (k : ℕ). then_values more (record_values (drop k vs) ls close)) next
-
--- a block that is closed in front of a variable
-pub cut_in_front : (vs : List VarDecl) (i close : ℕ) → IfSome (slice_get vs i) IsTold → i < length vs
-    → record_values (drop i vs) [] (Some close) ≡ refused Truncated close
-cut_in_front [] i close told lt = absurd (omega arith)
-cut_in_front (v ∷ vs) zero close told lt = rw told refl
-cut_in_front (v ∷ vs) (suc i) close told lt = cut_in_front vs i close told (omega arith)

@@ -1,7 +1,8 @@
 pub mod Joined
 pub mod Marked
 pub mod Left
-pub mod Unfaulted
+pub mod FirstFaults
+pub mod Variables
 pub mod Fitted
 pub mod ByPosition
 pub mod Tidy

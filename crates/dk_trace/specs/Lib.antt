@@ -10,6 +10,5 @@ pub mod Whole
 pub mod Marks
 pub mod Values
 pub mod Bodies
+pub mod Reading
 pub mod MarksResumed
-pub mod ValuesResumed
-pub mod BodiesResumed

@@ -1,26 +1,14 @@
 // The lines of a record behind its first.
-ghost use Rattle.std.specs.Prelude.{◌≡◌, ◌∷◌, [], Some, ℕ, List, Option};
-ghost use Rattle.dk_base.specs.Reading.{Line};
-ghost use Rattle.dk_decl.specs.Outcomes.{AnswerAgrees, ReaderGoesOn};
-ghost use Rattle.dk_decl.specs.declared.decls.VarDecl.{VarDecl as Declared};
-ghost use Rattle.dk_trace.specs.Answers.{Shows};
+ghost use Rattle.std.specs.Prelude.{◌≡◌, map};
+ghost use Rattle.dk_decl.specs.BlockLines.{line_of};
+ghost use Rattle.dk_decl.specs.Outcomes.{AnswerAgrees};
+ghost use Rattle.dk_trace.specs.Answers.{Shows, shown_body};
 ghost use Rattle.dk_trace.specs.Bodies.{body_of, from_nonce, is_nonce_line, nonce_of};
 
 use crate::marks::refuse;
-use crate::values::ValueReader;
+use crate::values::{next_line, read_values};
 use dk_base::{Arena, BlockFault, View, Why, parse_integer, same_bytes};
 use dk_decl::VarDecl;
-
-/// The lines of a record behind its first, which are read one after another.
-#[derive(Drop)]
-pub(crate) enum BodyReader<'a> {
-    /// No line was read.
-    AtStart,
-    /// The next line is the nonce.
-    AtNonce,
-    /// The values behind the nonce, if there is one.
-    AtValues(Option<i64>, ValueReader<'a>),
-}
 
 #[tactic(auto, unfolding(crate::specs::Bodies::is_nonce_line))]
 fn is_nonce_line(line: u64, bytes: &[u8]) -> bool
@@ -39,99 +27,38 @@ fn nonce_of(line: u64, bytes: &[u8]) -> Result<i64, BlockFault>
     }
 }
 
-impl<'a> BodyReader<'a> {
-    ghost use Rattle.dk_trace.specs.BodiesResumed.{body_resumed, nonce_read, shown_body};
+// The nonce and the values behind it.
+fn read_numbered<'a>(
+    arena: &'a Arena,
+    vars: &[VarDecl],
+    lines: &[(u64, &[u8])],
+    close: Option<u64>,
+) -> Result<(Option<i64>, &'a [View<'a>]), BlockFault>
+    ensures { Shows shown_body result (from_nonce vars.now (map line_of lines.now) close) }
+{
+    let Some((number, behind)) = next_line(lines, close)? else {
+        return Ok((None, &[]));
+    };
+    let nonce = nonce_of(number.0, number.1)?;
+    let values = read_values(arena, vars, behind, close)?;
+    Ok((Some(nonce), values))
+}
 
-    // The line behind the point's name.
-    #[tactic(auto, unfolding(crate::specs::Bodies::body_of, crate::specs::BodiesResumed::body_resumed))]
-    fn first_line(
-        arena: &'a Arena,
-        vars: &[VarDecl],
-        line: u64,
-        bytes: &[u8],
-    ) -> Result<BodyReader<'a>, BlockFault>
-        ensures { ReaderGoesOn (body_resumed vars.now) result (λ ls. body_of vars.now (record { number = line; bytes = bytes.now } ∷ ls)) }
-    {
-        if is_nonce_line(line, bytes) {
-            return Ok(BodyReader::AtNonce);
-        }
-        let mut values = ValueReader::begin(arena);
-        values.line(vars, line, bytes)?;
-        Ok(BodyReader::AtValues(None, values))
-    }
-
-    // The nonce.
-    #[tactic(auto, unfolding(crate::specs::BodiesResumed::body_resumed))]
-    fn nonce_line(arena: &'a Arena, line: u64, bytes: &[u8]) -> Result<BodyReader<'a>, BlockFault>
-        ensures { (vs : List Declared) → ReaderGoesOn (body_resumed vs) result (λ ls. from_nonce vs (record { number = line; bytes = bytes.now } ∷ ls)) }
-    {
-        let nonce = nonce_of(line, bytes)?;
-        Ok(BodyReader::AtValues(Some(nonce), ValueReader::begin(arena)))
-    }
-
-    /// One line more. After a fault nothing is said of the reader.
-    #[tactic(auto, unfolding(crate::specs::BodiesResumed::body_resumed))]
-    pub(crate) fn line(
-        &mut self,
-        arena: &'a Arena,
-        vars: &[VarDecl],
-        line: u64,
-        bytes: &[u8],
-    ) -> Result<(), BlockFault>
-        ensures { ReaderGoesOn (λ _. body_resumed vars.now self.new) result (λ ls. body_resumed vars.now self.old (record { number = line; bytes = bytes.now } ∷ ls)) }
-    {
-        match self {
-            BodyReader::AtStart => match BodyReader::first_line(arena, vars, line, bytes) {
-                Ok(next) => {
-                    *self = next;
-                    Ok(())
-                }
-                Err(fault) => Err(fault),
-            },
-            BodyReader::AtNonce => match BodyReader::nonce_line(arena, line, bytes) {
-                Ok(next) => {
-                    *self = next;
-                    Ok(())
-                }
-                Err(fault) => Err(fault),
-            },
-            BodyReader::AtValues(_, values) => values.line(vars, line, bytes),
+/// The nonce, if the first line says that one follows, and the values; or the first fault.
+#[tactic(auto, unfolding(crate::specs::Bodies::body_of))]
+pub(crate) fn read_body<'a>(
+    arena: &'a Arena,
+    vars: &[VarDecl],
+    lines: &[(u64, &[u8])],
+    close: Option<u64>,
+) -> Result<(Option<i64>, &'a [View<'a>]), BlockFault>
+    ensures { Shows shown_body result (body_of vars.now (map line_of lines.now) close) }
+{
+    if let [first, behind @ ..] = lines {
+        if is_nonce_line(first.0, first.1) {
+            return read_numbered(arena, vars, behind, close);
         }
     }
-
-    // The nonce, where it was read.
-    fn nonce(&self) -> Option<i64>
-        ensures { result ≡ nonce_read self.now }
-    {
-        match self {
-            BodyReader::AtStart => None,
-            BodyReader::AtNonce => None,
-            BodyReader::AtValues(nonce, _) => *nonce,
-        }
-    }
-
-    /// The nonce, if there is one, and the values of a record that ends at this line. Nothing is said of the reader behind it.
-    #[tactic(auto, unfolding(crate::specs::Bodies::body_of, crate::specs::BodiesResumed::body_resumed))]
-    pub(crate) fn end(
-        &mut self,
-        arena: &'a Arena,
-        vars: &[VarDecl],
-        line: u64,
-    ) -> Result<(Option<i64>, &'a [View<'a>]), BlockFault>
-        ensures { Shows shown_body result (body_resumed vars.now self.old [] (Some line)) }
-    {
-        let nonce = self.nonce();
-        match self {
-            BodyReader::AtStart => {
-                let mut values = ValueReader::begin(arena);
-                let views = values.end(vars, line)?;
-                Ok((None, views))
-            }
-            BodyReader::AtNonce => Err(refuse(line, Why::Truncated)),
-            BodyReader::AtValues(_, values) => {
-                let views = values.end(vars, line)?;
-                Ok((nonce, views))
-            }
-        }
-    }
+    let values = read_values(arena, vars, lines, close)?;
+    Ok((None, values))
 }

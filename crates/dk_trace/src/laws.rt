@@ -3,7 +3,7 @@ ghost use Rattle.std.specs.Prelude.{◌≡◌, IfOk, Some, map};
 ghost use Rattle.dk_decl.specs.Laws.{line_of};
 ghost use Rattle.dk_trace.specs.Answers.{Shows};
 ghost use Rattle.dk_trace.specs.Fitting.{ValuesFit};
-ghost use Rattle.dk_trace.specs.OpenRecords.{NoFaultYet};
+ghost use Rattle.dk_trace.specs.OpenRecords.{FirstFaultsStay};
 ghost use Rattle.dk_trace.specs.Positions.{LinesCountByPosition};
 ghost use Rattle.dk_trace.specs.Records.{sample_of};
 ghost use Rattle.dk_trace.specs.RecordsResumed.{shown};
@@ -33,9 +33,9 @@ pub fn read_record<'a>(
     reader.end(points, close)
 }
 
-/// A record that is still read has no fault: what was found was refused at its line.
-pub fn no_fault_yet()
-    ensures { NoFaultYet }
+/// A fault of the first lines of a record is that of all of them, whatever follows: so it can be told at its line.
+pub fn first_faults_stay()
+    ensures { FirstFaultsStay }
 {}
 
 /// The values of a sample are as many as the declared variables of its point that are not opaque, each is of its variable's kind, and

@@ -13,6 +13,6 @@ mod sample;
 mod values;
 mod whole;
 
-pub use reader::RecordReader;
+pub use reader::{RecordReader, read_record};
 pub use sample::BaseSample;
 pub use whole::{Whole, read_whole};

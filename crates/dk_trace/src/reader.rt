@@ -1,27 +1,20 @@
-// Records, read line by line.
-ghost use Rattle.std.specs.Prelude.{◌≡◌, ◌<◌, ◌∷◌, [], IfOk, Some, length};
-ghost use Rattle.dk_base.specs.Reading.{Line};
+// Records.
+ghost use Rattle.std.specs.Prelude.{◌≡◌, ◌<◌, ◌∷◌, [], IfOk, None, Option, Some, ℕ, length, map};
 ghost use Rattle.dk_base.specs.declared.why.Why.TheVariants.{UnknownPoint};
-ghost use Rattle.dk_decl.specs.Outcomes.{AnswerAgrees, ReaderGoesOn, or_refused};
+ghost use Rattle.dk_decl.specs.BlockLines.{line_of};
+ghost use Rattle.dk_decl.specs.Outcomes.{ReaderGoesOn, or_refused};
 ghost use Rattle.dk_trace.specs.Answers.{Shows};
+ghost use Rattle.dk_trace.specs.Reading.{FaultOf};
+ghost use Rattle.dk_trace.specs.RecordsResumed.{shown};
 ghost use Rattle.dk_trace.specs.Records.{declared_place, point_named_by, sample_of, var_decls_at};
 
-use crate::bodies::BodyReader;
+use crate::bodies::read_body;
 use crate::marks::refuse;
 use crate::sample::BaseSample;
-use dk_base::{Arena, BlockFault, PointId, Why, is_plain, unescape};
-use dk_decl::VarDecl;
+use dk_base::{Arena, BlockFault, PointId, Text, Why, is_plain, unescape};
+use dk_decl::{BlockLines, VarDecl};
 use dk_points::Points;
 use std::alloc::Global;
-
-/// A record that is being read, line by line.
-#[derive(Drop)]
-pub struct RecordReader<'a> {
-    pub(crate) arena: &'a Arena,
-    pub(crate) point: PointId,
-    pub(crate) line: u64,
-    pub(crate) body: BodyReader<'a>,
-}
 
 // The declared point of this name, which the line spells; another point is tried first.
 fn named_point(
@@ -73,11 +66,47 @@ pub(crate) fn var_decls_at(points: &Points, point: PointId) -> &[VarDecl]
     }
 }
 
+/// The sample of a record of this first line and the lines behind it, which ends at the line `close`; or its first fault. It is refused as
+/// `UnknownPoint`, `BadNonce`, `WrongName`, `BadValue`, `BadMark`, `ExtraLine` or, at its end, `Truncated`. Of a record that is cut off,
+/// without a line that ends it, what stands in front of the cut. The point `last` is tried first.
+#[tactic(auto, unfolding(crate::specs::Records::sample_of))]
+pub fn read_record<'a>(
+    alloc: Global,
+    points: &Points,
+    last: PointId,
+    arena: &'a Arena,
+    first: (u64, &[u8]),
+    rest: &[(u64, &[u8])],
+    close: Option<u64>,
+) -> Result<BaseSample<'a>, BlockFault>
+    ensures sample { Shows shown result (sample_of points.now (line_of first.entry) (map line_of rest.now) close) }
+    ensures of { IfOk result (λ s. s.point.0 < length points.now) }
+{
+    let point = point_named_by(alloc, points, last, first.0, first.1)?;
+    let (nonce, values) = read_body(arena, var_decls_at(points, point), rest, close)?;
+    Ok(BaseSample {
+        point,
+        line: first.0,
+        nonce,
+        values,
+    })
+}
+
+/// A record whose lines are handed in one after another. All lines so far are judged with each: a record that is there is read at once by
+/// `read_record`.
+#[derive(Drop)]
+pub struct RecordReader<'a> {
+    pub(crate) alloc: Global,
+    pub(crate) arena: &'a Arena,
+    pub(crate) number: u64,
+    pub(crate) first: Text,
+    pub(crate) rest: BlockLines,
+}
+
 impl<'a> RecordReader<'a> {
-    ghost use Rattle.dk_trace.specs.RecordsResumed.{IsOf, record_resumed, shown};
+    ghost use Rattle.dk_trace.specs.RecordsResumed.{record_resumed};
 
     /// A record that begins with this line. It is refused as `UnknownPoint` where the line spells the name of no declared point.
-    #[tactic(auto, unfolding(crate::specs::Records::sample_of, crate::specs::RecordsResumed::record_resumed, crate::specs::BodiesResumed::body_resumed))]
     pub fn begin(
         alloc: Global,
         points: &Points,
@@ -85,46 +114,65 @@ impl<'a> RecordReader<'a> {
         line: u64,
         bytes: &[u8],
     ) -> Result<RecordReader<'a>, BlockFault>
-        ensures goes_on { ReaderGoesOn (record_resumed points.now) result (sample_of points.now (record { number = line; bytes = bytes.now })) }
-        ensures of { IfOk result (λ r. IsOf points.now r) }
+        ensures { ReaderGoesOn (record_resumed points.now) result (sample_of points.now (record { number = line; bytes = bytes.now })) }
     {
-        let point = point_named_by(alloc, points, PointId(0), line, bytes)?;
-        Ok(RecordReader {
+        let reader = RecordReader {
+            alloc,
             arena,
-            point,
-            line,
-            body: BodyReader::AtStart,
-        })
+            number: line,
+            first: Text::from_slice(alloc, bytes)?,
+            rest: BlockLines::new(alloc),
+        };
+        reader.judge(points)?;
+        Ok(reader)
+    }
+
+    // The sample of the lines so far; or their first fault.
+    fn read<'b>(
+        &self,
+        points: &Points,
+        arena: &'b Arena,
+        close: Option<u64>,
+    ) -> Result<BaseSample<'b>, BlockFault>
+        ensures sample { Shows shown result (record_resumed points.now self.now [] close) }
+        ensures of { IfOk result (λ s. s.point.0 < length points.now) }
+    {
+        let lines = self.rest.numbered()?;
+        read_record(
+            self.alloc,
+            points,
+            PointId(0),
+            arena,
+            (self.number, self.first.as_slice()),
+            lines.as_slice(),
+            close,
+        )
+    }
+
+    // The first fault of the lines so far, if they have one.
+    fn judge(&self, points: &Points) -> Result<(), BlockFault>
+        ensures { FaultOf result (record_resumed points.now self.now [] None) }
+    {
+        let arena = Arena::new(self.alloc);
+        self.read(points, &arena, None)?;
+        Ok(())
     }
 
     /// One line more. The record is refused as `BadNonce`, `WrongName`, `BadValue`, `BadMark` or `ExtraLine` as soon as no lines behind it
-    /// can make it good; after a fault no more is said of the reader than its point. The points are those of `begin`.
-    #[tactic(auto, unfolding(crate::specs::RecordsResumed::record_resumed))]
+    /// can make it good; after a fault nothing is said of the reader. The points are those of `begin`.
     pub fn line(&mut self, points: &Points, line: u64, bytes: &[u8]) -> Result<(), BlockFault>
-        requires { IsOf points.now self.old }
-        ensures goes_on { ReaderGoesOn (λ _. record_resumed points.now self.new) result (λ ls. record_resumed points.now self.old (record { number = line; bytes = bytes.now } ∷ ls)) }
-        ensures of { IsOf points.now self.new }
+        ensures { ReaderGoesOn (λ _. record_resumed points.now self.new) result (λ ls. record_resumed points.now self.old (record { number = line; bytes = bytes.now } ∷ ls)) }
     {
-        self.body
-            .line(self.arena, var_decls_at(points, self.point), line, bytes)
+        self.rest.push(line, bytes)?;
+        self.judge(points)
     }
 
     /// The sample of a record that ends at this line. It is refused as `Truncated` where a line was still awaited: a nonce, or a variable's
-    /// name, value or mark. The points are those of `begin`. Nothing is said of the reader behind it.
-    #[tactic(auto, unfolding(crate::specs::RecordsResumed::record_resumed))]
+    /// name, value or mark. The points are those of `begin`.
     pub fn end(&mut self, points: &Points, line: u64) -> Result<BaseSample<'a>, BlockFault>
-        requires { IsOf points.now self.old }
         ensures sample { Shows shown result (record_resumed points.now self.old [] (Some line)) }
         ensures of { IfOk result (λ s. s.point.0 < length points.now) }
     {
-        let (nonce, values) = self
-            .body
-            .end(self.arena, var_decls_at(points, self.point), line)?;
-        Ok(BaseSample {
-            point: self.point,
-            line: self.line,
-            nonce,
-            values,
-        })
+        self.read(points, self.arena, Some(line))
     }
 }

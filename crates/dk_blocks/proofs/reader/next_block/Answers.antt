@@ -1,7 +1,7 @@
 use Rattle.std.proofs.Common.{◌≡◌, Option, Result, Ok, Some, subst, rules}
 use Rattle.dk_blocks.specs.AtHand.{HandGives}
 use Rattle.dk_blocks.specs.declared.found.Found.{Found}
-use Rattle.dk_blocks.specs.declared.reader.Stop.{Stop}
+use Rattle.dk_blocks.specs.declared.gather.Stop.{Stop}
 use Rattle.dk_blocks.proofs.reader.next_block.Goals as goal
 
 pub returns-in-Ok-Some-clause-gives : goal.returns-in-Ok-Some-clause-gives

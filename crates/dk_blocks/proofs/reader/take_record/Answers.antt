@@ -1,6 +1,6 @@
 use Rattle.std.proofs.Common.{◌+◌, Err, sym, subst}
 use Rattle.dk_blocks.specs.AtHand.{HandGives}
-use Rattle.dk_blocks.specs.declared.reader.Stop.{Stop}
+use Rattle.dk_blocks.specs.declared.gather.Stop.{Stop}
 use Rattle.dk_blocks.proofs.AtHand.{all_lines, are_lines, fault_gives, found_gives}
 use Rattle.dk_blocks.proofs.reader.take_record.Goals as goal
 

@@ -1,10 +1,10 @@
 use Rattle.std.proofs.Common.{◌≡◌, false, IfSome, Result, Ok, rules, refl, subst}
 use Rattle.dk_lines.specs.Reading.{left_of}
 use Rattle.dk_blocks.specs.History.{effect_of}
-use Rattle.dk_blocks.specs.LineSteps.{BlockGives}
-use Rattle.dk_blocks.specs.declared.reader.Stop.{Stop}
+use Rattle.dk_blocks.specs.BlockSteps.{BlockGives}
+use Rattle.dk_blocks.specs.declared.gather.Stop.{Stop}
 use Rattle.dk_blocks.proofs.Stepping.{block_answers, still_over}
-use Rattle.dk_blocks.specs.Turns.{ending_at, ending_of}
+use Rattle.dk_blocks.specs.BlockSteps.{ending_at, ending_of}
 use Rattle.dk_blocks.specs.declared.reader.End.{End}
 use Rattle.dk_blocks.proofs.reader.Reader.next.Goals as goal
 
