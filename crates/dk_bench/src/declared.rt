@@ -1,7 +1,7 @@
 // The engine of a point.
 use crate::faults::Fault;
 use dk_base::{NoMemory, PointId, Text};
-use dk_decl::laws::read_block;
+use dk_decl::read_declaration;
 use dk_engine::Engine;
 use dk_hierarchy::engine_of;
 use dk_points::Points;
@@ -47,7 +47,7 @@ fn table_of(alloc: Global, block: &[(u64, &[u8])]) -> Result<Points, Fault> {
     match block {
         [] => Err(Fault::Refused),
         [first, rest @ ..] => {
-            let decl = read_block(alloc, true, *first, rest)?;
+            let decl = read_declaration(alloc, true, *first, rest, true)?;
             let (points, _) = Points::new(alloc)?.declare(decl, 1)?;
             Ok(points)
         }

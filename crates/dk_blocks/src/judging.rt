@@ -55,13 +55,14 @@ fn front_line(header: &mut Header, line: u64, bytes: &[u8]) -> Result<FrontLine,
 }
 
 // Comments are passed over, and header lines are put in force, up to the first line of the record.
-fn read_front<'b>(header: Header, lines: &'b [(u64, &'b [u8])]) -> Result<Front<'b>, BlockFault>
+fn read_front<'b>(
+    mut header: Header,
+    lines: &'b [(u64, &'b [u8])],
+) -> Result<Front<'b>, BlockFault>
     ensures { FrontRead result (block_front header None (map line_of lines.now)) }
 {
-    let mut header = header;
     let mut last = None;
-    let mut left = lines;
-    'front: while let [line, behind @ ..] = left {
+    for (at, line) in lines.iter().enumerate() {
         match front_line(&mut header, line.0, line.1)? {
             FrontLine::Comment => {}
             FrontLine::Header => last = Some(line.0),
@@ -69,16 +70,15 @@ fn read_front<'b>(header: Header, lines: &'b [(u64, &'b [u8])]) -> Result<Front<
                 return Ok(Front {
                     header,
                     last,
-                    lines: left,
+                    lines: &lines[at..],
                 });
             }
         }
-        left = behind;
     }
     Ok(Front {
         header,
         last,
-        lines: left,
+        lines: &[],
     })
 }
 

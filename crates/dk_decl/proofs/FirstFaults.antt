@@ -8,6 +8,7 @@ use Rattle.dk_decl.specs.LineWords.{each_line}
 use Rattle.dk_decl.specs.OpenBlocks.{FirstFaultsStay}
 use Rattle.dk_decl.specs.Outcomes.{FaultsStay}
 use Rattle.dk_decl.specs.PptBlock.{groups, has_ended, is_variable, point_name, point_with, ppt_lines, ppt_of, vars_after, with_var}
+use Rattle.dk_decl.proofs.VarGroups.{with_line}
 use Rattle.dk_decl.specs.Variables.{open_var, var_line}
 use Rattle.dk_decl.specs.declared.decls.EdgeDecl.{EdgeDecl}
 use Rattle.dk_decl.specs.declared.decls.PointDecl.{PointDecl}
@@ -60,10 +61,6 @@ declare_stays implicit line (l ∷ ls) more close e is =
 -- what the lines of a variable that was opened, and those behind them, come to
 abbrev from_var : Bool → List EdgeDecl → List VarDecl → OpenVar → List Line × List (Line × List Line) → Option ℕ → Result (List VarDecl) LineFault
 from_var implicit es vs o g close = each_line (var_line implicit es) o g.0 >>= λ w. with_var vs w (has_ended g.1 close) >>= λ ws. vars_after implicit es ws g.1 close
-
--- the groups of a line and those behind it, where this is a `variable` line or another
-abbrev with_line : Bool → Line → List Line × List (Line × List Line) → List Line × List (Line × List Line)
-with_line b l g = if b then ([], (l, g.0) ∷ g.1) else (l ∷ g.0, g.1)
 
 var_stays : (implicit : Bool) (es : List EdgeDecl) (vs : List VarDecl) (o : OpenVar) (front more : List Line) (close : Option ℕ) (e : LineFault)
     → from_var implicit es vs o (groups front) None ≡ Err e → from_var implicit es vs o (groups (front ++ more)) close ≡ Err e

@@ -3,6 +3,7 @@ pub mod LastLines
 pub mod PastLines
 pub mod LastWord
 pub mod ByPosition
-pub mod FirstFaults
 pub mod VarGroups
+pub mod GatheredLines
+pub mod FirstFaults
 mod Examples

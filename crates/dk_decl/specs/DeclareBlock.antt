@@ -1,6 +1,5 @@
 -- A declaration that begins with `DECLARE`, whose lines are read by their positions.
-use Rattle.std.specs.Prelude.{◌≡◌, ◌++◌, ℕ, Bool, true, false, List, [], ◌∷◌, codes, is_some, map, Option, Some, None, Result, Ok, Err, if◌then◌else◌}
-use Rattle.std.specs.Borrow.{Bor}
+use Rattle.std.specs.Prelude.{◌≡◌, ◌≤◌, ◌++◌, ℕ, Bool, true, false, List, [], ◌∷◌, codes, drop, is_some, length, Option, Some, None, Result, Ok, Err, if◌then◌else◌}
 use Rattle.dk_base.specs.Names.{unescaped}
 use Rattle.dk_base.specs.Pieces.{is_empty}
 use Rattle.dk_base.specs.Reading.{Line, LineFault, ◌>>=◌, Reads}
@@ -11,7 +10,6 @@ use Rattle.dk_base.specs.declared.values.Value.{Value}
 use Rattle.dk_base.specs.declared.why.Why.TheVariants.{BadPoint, BadVariable}
 use Rattle.dk_decl.specs.Brackets.{compar_of, no_compar}
 use Rattle.dk_decl.specs.LineWords.{begins, operand}
-use Rattle.dk_decl.specs.BlockLines.{line_of}
 use Rattle.dk_decl.specs.Outcomes.{FaultAgrees, refused, or_refused}
 use Rattle.dk_decl.specs.Types.{constant_at, rep_kind, rep_type_of}
 use Rattle.dk_decl.specs.VarNames.{has_name}
@@ -61,6 +59,11 @@ abbrev pub cut_short : List VarDecl → ℕ → Option ℕ → Result (List VarD
 cut_short vs line None = Ok vs
 cut_short vs line (Some close) = refused BadVariable line
 
+-- these are the lines of such a variable
+abbrev pub cut_here : List VarDecl → Reads (List VarDecl)
+cut_here vs [] close = Ok vs
+cut_here vs (l ∷ ls) close = cut_short vs l.number close
+
 -- four lines for each variable: its name, its declared type, its representation, its comparability
 abbrev mutual
   pub from_name : Bool → List VarDecl → Reads (List VarDecl)
@@ -89,10 +92,9 @@ declare_lines implicit first [] None = Ok (record { name = []; edges = []; vars 
 declare_lines implicit first [] (Some close) = refused BadPoint first
 declare_lines implicit first (l ∷ ls) close = named_point (unescaped l.bytes) (from_name implicit [] ls close)
 
--- What is read of the variable whose name stands in the first of these lines, at this number: it and what follows it, or that its lines are
--- not all there, or its first fault.
-abbrev pub VariableRead : Bool → List VarDecl → List Line → ℕ → Result (Option (VarDecl × Bor (List (ℕ × Bor (List ℕ))))) BlockFault → Type 0
-VariableRead implicit vs ls line (Ok (Some r)) =
-    (close : Option ℕ) → from_name implicit vs ls close ≡ from_name implicit (vs ++ r.0 ∷ []) (map line_of r.1.now) close
-VariableRead implicit vs ls line (Ok None) = (close : Option ℕ) → from_name implicit vs ls close ≡ cut_short vs line close
-VariableRead implicit vs ls line (Err fault) = (close : Option ℕ) → FaultAgrees fault (from_name implicit vs ls close)
+-- What is read of the variable whose lines begin these: it, or that they are not all there, or its first fault.
+abbrev pub VariableRead : Bool → List VarDecl → List Line → Result (Option VarDecl) BlockFault → Type 0
+VariableRead implicit vs ls (Ok (Some v)) =
+    (4 ≤ length ls) × ((close : Option ℕ) → from_name implicit vs ls close ≡ from_name implicit (vs ++ v ∷ []) (drop 4 ls) close)
+VariableRead implicit vs ls (Ok None) = (close : Option ℕ) → from_name implicit vs ls close ≡ cut_here vs ls close
+VariableRead implicit vs ls (Err fault) = (close : Option ℕ) → FaultAgrees fault (from_name implicit vs ls close)

@@ -1,5 +1,5 @@
 -- A declaration that begins with `ppt`.
-use Rattle.std.specs.Prelude.{◌++◌, ℕ, Bool, true, false, List, [], ◌∷◌, codes, is_some, Option, Some, None, Result, Ok, if◌then◌else◌}
+use Rattle.std.specs.Prelude.{◌≡◌, ◌++◌, ℕ, Bool, true, false, List, [], ◌∷◌, codes, drop, is_some, take, Option, Some, None, Result, Ok, if◌then◌else◌}
 use Rattle.dk_base.specs.Names.{unescaped}
 use Rattle.dk_base.specs.Pieces.{is_empty}
 use Rattle.dk_base.specs.Reading.{Line, LineFault, ◌>>=◌, Reads}
@@ -23,6 +23,10 @@ groups [] = ([], [])
 groups (l ∷ ls) =
     if is_variable l then ([], (l, (groups ls).0) ∷ (groups ls).1)
     else (l ∷ (groups ls).0, (groups ls).1)
+
+-- so many lines stand in front of the first variable
+abbrev pub AreOwn : ℕ → List Line → Type 0
+AreOwn count ls = ((groups ls).0 ≡ take count ls) × (groups (drop count ls) ≡ ([], (groups ls).1))
 
 -- a variable has ended where another one follows or the block is closed
 abbrev pub has_ended : List (Line × List Line) → Option ℕ → Bool

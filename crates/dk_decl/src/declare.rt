@@ -1,5 +1,5 @@
 // A declaration that begins with `DECLARE`, whose lines are read by their positions.
-ghost use Rattle.std.specs.Prelude.{◌≡◌, ◌<◌, ◌∷◌, [], ℕ, IfOk, IfSome, Option, is_some, length, map};
+ghost use Rattle.std.specs.Prelude.{◌≡◌, [], ℕ, Option, is_some, map};
 ghost use Rattle.dk_decl.specs.DeclareBlock.{VariableRead, comparability, constant_text, declare_lines, from_name, new_name, old_form_var, representation};
 ghost use Rattle.dk_decl.specs.BlockLines.{line_of};
 ghost use Rattle.dk_decl.specs.Outcomes.{AnswerAgrees};
@@ -13,6 +13,9 @@ use crate::variables::NO_COMPAR;
 use crate::vars::Vars;
 use dk_base::{BlockFault, Compar, List, Text, Value, first_word, unescape};
 use std::alloc::Global;
+
+/// Its name, its declared type, its representation, its comparability.
+const LINES_OF_A_VARIABLE: usize = 4;
 
 /// What a variable's representation says.
 #[derive(Drop)]
@@ -98,57 +101,50 @@ fn declared_var(alloc: Global, name: Text, represented: Represented, compar: Com
     }
 }
 
-// The variable whose name stands in this line, and whose other lines begin those behind it, and what follows them. There is none where
-// these are not all there.
-fn read_variable<'b>(
+// The variable whose four lines begin these. There is none where they are not all there.
+fn read_variable(
     alloc: Global,
     implicit: bool,
     vars: &Vars,
-    name: (u64, &[u8]),
-    behind: &'b [(u64, &'b [u8])],
-) -> Result<Option<(VarDecl, &'b [(u64, &'b [u8])])>, BlockFault>
-    ensures reads { VariableRead implicit vars.now (line_of name.entry ∷ map line_of behind.now) name.0 result }
-    ensures shorter { IfOk result (λ found. IfSome found (λ r. length r.1.now < length behind.now)) }
+    lines: &[(u64, &[u8])],
+) -> Result<Option<VarDecl>, BlockFault>
+    ensures { VariableRead implicit vars.now (map line_of lines.now) result }
 {
-    let own = new_name(alloc, vars, name.0, name.1)?;
-    match behind {
-        [_, said, compared, rest @ ..] => {
-            let represented = representation(alloc, said.0, said.1)?;
-            let compar = comparability(alloc, implicit, compared.0, compared.1)?;
-            Ok(Some((declared_var(alloc, own, represented, compar), rest)))
-        }
-        [_, said] => {
-            let _represented = representation(alloc, said.0, said.1)?;
-            Ok(None)
-        }
-        _ => Ok(None),
-    }
+    let [first, behind @ ..] = lines else {
+        return Ok(None);
+    };
+    let name = new_name(alloc, vars, first.0, first.1)?;
+    let [_, said, others @ ..] = behind else {
+        return Ok(None);
+    };
+    let represented = representation(alloc, said.0, said.1)?;
+    let [compared, ..] = others else {
+        return Ok(None);
+    };
+    let compar = comparability(alloc, implicit, compared.0, compared.1)?;
+    Ok(Some(declared_var(alloc, name, represented, compar)))
 }
 
 // The variables of these lines, four for each.
-fn read_vars<'b>(
+fn read_vars(
     alloc: Global,
     implicit: bool,
-    lines: &'b [(u64, &'b [u8])],
+    lines: &[(u64, &[u8])],
     is_closed: bool,
 ) -> Result<Vars, BlockFault>
     ensures { (close : Option ℕ) → is_some close ≡ is_closed → AnswerAgrees result (from_name implicit [] (map line_of lines.now) close) }
 {
     let mut vars = Vars::new(alloc);
-    let mut left = lines;
-    'vars: while let [name, behind @ ..] = left {
-        match read_variable(alloc, implicit, &vars, *name, behind)? {
-            Some((var, rest)) => {
-                vars = in_memory(vars.with(var))?;
-                left = rest;
+    let mut at = 0;
+    'vars: while at < lines.len() {
+        let Some(var) = read_variable(alloc, implicit, &vars, &lines[at..])? else {
+            if is_closed {
+                return Err(bad_variable(lines[at].0));
             }
-            None => {
-                if is_closed {
-                    return Err(bad_variable(name.0));
-                }
-                return Ok(vars);
-            }
-        }
+            return Ok(vars);
+        };
+        vars = in_memory(vars.with(var))?;
+        at += LINES_OF_A_VARIABLE;
     }
     Ok(vars)
 }

@@ -4,7 +4,7 @@ ghost use Rattle.dk_decl.specs.BlockLines.{line_of};
 ghost use Rattle.dk_decl.specs.LineWords.{each_line};
 ghost use Rattle.dk_decl.specs.Heads.{head_line};
 ghost use Rattle.dk_decl.specs.Outcomes.{AnswerAgrees};
-ghost use Rattle.dk_decl.specs.PptBlock.{groups, is_variable, point_name, ppt_of, vars_after, with_var};
+ghost use Rattle.dk_decl.specs.PptBlock.{AreOwn, groups, is_variable, point_name, ppt_of, vars_after, with_var};
 ghost use Rattle.dk_decl.specs.Variables.{var_line};
 
 use crate::decls::{EdgeDecl, PointDecl};
@@ -35,17 +35,17 @@ fn is_variable(line: u64, bytes: &[u8]) -> bool
     begins(b"variable", bytes)
 }
 
-// The lines in front of the first `variable` line, and those from it on.
-fn own_lines<'b>(lines: &'b [(u64, &'b [u8])]) -> (&'b [(u64, &'b [u8])], &'b [(u64, &'b [u8])])
-    ensures own { map line_of result.0.now ≡ (groups (map line_of lines.now)).0 }
-    ensures others { groups (map line_of result.1.now) ≡ ([], (groups (map line_of lines.now)).1) }
-    ensures shorter { length result.1.now ≤ length lines.now }
+// How many lines stand in front of the first `variable` line.
+fn own_lines(lines: &[(u64, &[u8])]) -> usize
+    ensures own { AreOwn result (map line_of lines.now) }
+    ensures within { result ≤ length lines.now }
 {
-    let len = lines
-        .iter()
-        .position(|line| is_variable(line.0, line.1))
-        .unwrap_or(lines.len());
-    lines.split_at(len)
+    for (count, line) in lines.iter().enumerate() {
+        if is_variable(line.0, line.1) {
+            return count;
+        }
+    }
+    lines.len()
 }
 
 // The edges that the lines in front of the first variable declare.
@@ -85,26 +85,27 @@ fn with_var(alloc: Global, vars: Vars, ended: OpenVar) -> Result<Vars, BlockFaul
 }
 
 // The variables of these lines, which begin with a `variable` line. The last one ends where the block is closed.
-fn read_vars<'b>(
+fn read_vars(
     alloc: Global,
     implicit: bool,
     edges: &List<EdgeDecl>,
-    lines: &'b [(u64, &'b [u8])],
+    lines: &[(u64, &[u8])],
     is_closed: bool,
 ) -> Result<Vars, BlockFault>
     requires { (groups (map line_of lines.now)).0 ≡ [] }
     ensures { (close : Option ℕ) → is_some close ≡ is_closed → AnswerAgrees result (vars_after implicit edges.now [] (groups (map line_of lines.now)).1 close) }
 {
     let mut vars = Vars::new(alloc);
-    let mut left = lines;
-    'vars: while let [first, behind @ ..] = left {
-        let (own, others) = own_lines(behind);
-        let opened = open_var(alloc, &vars, first.0, first.1)?;
-        let var = read_lines(alloc, implicit, edges, opened, own)?;
-        if is_closed || !others.is_empty() {
+    let mut at = 0;
+    'vars: while at < lines.len() {
+        let behind = &lines[at + 1..];
+        let own = own_lines(behind);
+        let opened = open_var(alloc, &vars, lines[at].0, lines[at].1)?;
+        let var = read_lines(alloc, implicit, edges, opened, &behind[..own])?;
+        at += own + 1;
+        if is_closed || at < lines.len() {
             vars = with_var(alloc, vars, var)?;
         }
-        left = others;
     }
     Ok(vars)
 }
@@ -121,9 +122,9 @@ pub(crate) fn read_ppt(
     ensures { (close : Option ℕ) → is_some close ≡ is_closed → AnswerAgrees result (ppt_of implicit (line_of first.entry) (map line_of rest.now) close) }
 {
     let name = point_name(alloc, first.0, first.1)?;
-    let (heads, others) = own_lines(rest);
-    let edges = read_heads(alloc, heads)?;
-    let vars = read_vars(alloc, implicit, &edges, others, is_closed)?;
+    let heads = own_lines(rest);
+    let edges = read_heads(alloc, &rest[..heads])?;
+    let vars = read_vars(alloc, implicit, &edges, &rest[heads..], is_closed)?;
     Ok(PointDecl {
         name,
         edges,

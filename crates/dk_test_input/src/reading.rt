@@ -1,7 +1,6 @@
 // Declarations and tables from texts, as the tables of tests have them.
 use dk_base::{BlockFault, NoMemory, PointId, Text};
-use dk_decl::PointDecl;
-use dk_decl::laws::read_block;
+use dk_decl::{PointDecl, read_declaration};
 use dk_points::{Declared, Points};
 use std::alloc::Global;
 
@@ -20,15 +19,15 @@ pub(crate) fn numbered_lines(
     Ok(lines)
 }
 
-/// What a block of these lines declares.
-pub(crate) fn read_declaration(
+// What a block of these lines declares.
+fn declaration(
     alloc: Global,
     implicit: bool,
     block: &[(u64, &[u8])],
 ) -> Result<PointDecl, BlockFault> {
     match block {
         [] => Err(BlockFault::NoMemory),
-        [first, rest @ ..] => read_block(alloc, implicit, *first, rest),
+        [first, rest @ ..] => read_declaration(alloc, implicit, *first, rest, true),
     }
 }
 
@@ -39,7 +38,7 @@ fn with_block(
     block: &[(u64, &[u8])],
     number: u64,
 ) -> Result<(Points, Declared), BlockFault> {
-    points.declare(read_declaration(alloc, true, block)?, number)
+    points.declare(declaration(alloc, true, block)?, number)
 }
 
 /// The table behind the blocks of a text, which blank lines separate, and what the last one was. A refusal has the number of its

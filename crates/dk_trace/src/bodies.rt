@@ -6,7 +6,7 @@ ghost use Rattle.dk_trace.specs.Answers.{Shows, shown_body};
 ghost use Rattle.dk_trace.specs.Bodies.{body_of, from_nonce, is_nonce_line, nonce_of};
 
 use crate::marks::refuse;
-use crate::values::{next_line, read_values};
+use crate::values::{await_line, read_values};
 use dk_base::{Arena, BlockFault, View, Why, parse_integer, same_bytes};
 use dk_decl::VarDecl;
 
@@ -36,7 +36,8 @@ fn read_numbered<'a>(
 ) -> Result<(Option<i64>, &'a [View<'a>]), BlockFault>
     ensures { Shows shown_body result (from_nonce vars.now (map line_of lines.now) close) }
 {
-    let Some((number, behind)) = next_line(lines, close)? else {
+    let [number, behind @ ..] = lines else {
+        await_line(close)?;
         return Ok((None, &[]));
     };
     let nonce = nonce_of(number.0, number.1)?;

@@ -1,17 +1,21 @@
 // The lines of a record that give its values.
-ghost use Rattle.std.specs.Prelude.{◌≡◌, ◌++◌, [], IfOk, OnOk, map};
+ghost use Rattle.std.specs.Prelude.{◌≡◌, ◌++◌, [], IfOk, Ok, OnOk, map};
 ghost use Rattle.std.specs.Str.{bytes_eq};
 ghost use Rattle.dk_base.specs.Names.{unescaped};
 ghost use Rattle.dk_base.specs.Values.{values_of as shown_by};
 ghost use Rattle.dk_decl.specs.BlockLines.{line_of};
+ghost use Rattle.dk_decl.specs.Outcomes.{AnswerAgrees};
 ghost use Rattle.dk_trace.specs.Answers.{Shows, shown_value};
-ghost use Rattle.dk_trace.specs.Reading.{NextRead, VariableRead};
-ghost use Rattle.dk_trace.specs.Values.{known_values, record_values};
+ghost use Rattle.dk_trace.specs.Reading.{VariableRead};
+ghost use Rattle.dk_trace.specs.Values.{known_values, next_line, record_values};
 
 use crate::marks::{Unmarked, refuse};
 use bumpalo::collections::into_bump_slice;
 use dk_base::{Arena, BlockFault, NoMemory, Text, Value, View, Why, is_spelling};
 use dk_decl::VarDecl;
+
+/// Its name, its value's text, its mark.
+const LINES_OF_A_VARIABLE: usize = 3;
 
 fn is_named(bytes: &[u8], name: &Text) -> bool
     ensures { result ≡ bytes_eq (unescaped bytes.now) name.now }
@@ -46,49 +50,45 @@ pub(crate) fn push_constant<'a>(
     Ok(())
 }
 
-/// The next line, and those behind it. There is none where the block is cut off in front of it; one that is closed there is truncated.
-pub(crate) fn next_line<'b>(
-    lines: &'b [(u64, &'b [u8])],
-    close: Option<u64>,
-) -> Result<Option<((u64, &'b [u8]), &'b [(u64, &'b [u8])])>, BlockFault>
-    ensures { NextRead (map line_of lines.now) close result }
+/// A line is awaited, and there is none more. A block that is closed here is truncated.
+pub(crate) fn await_line(close: Option<u64>) -> Result<(), BlockFault>
+    ensures { AnswerAgrees result (next_line tt (λ _ _ _. Ok tt) [] close) }
 {
-    match lines {
-        [first, rest @ ..] => Ok(Some((*first, rest))),
-        [] => match close {
-            None => Ok(None),
-            Some(line) => Err(refuse(line, Why::Truncated)),
-        },
+    match close {
+        None => Ok(()),
+        Some(line) => Err(refuse(line, Why::Truncated)),
     }
 }
 
-// The values with that of a variable, whose three lines begin these, and the lines behind them. There are none where the block is cut off
-// in front of one of the three.
-fn read_variable<'a, 'b>(
+// The values with that of a variable, whose three lines begin these. Whether they are all there.
+fn read_variable<'a>(
     arena: &'a Arena,
     var: &VarDecl,
-    lines: &'b [(u64, &'b [u8])],
+    lines: &[(u64, &[u8])],
     close: Option<u64>,
     values: &mut Vec<View<'a>, &'a Arena>,
-) -> Result<Option<&'b [(u64, &'b [u8])]>, BlockFault>
+) -> Result<bool, BlockFault>
     ensures { VariableRead var.now (map line_of lines.now) close (shown_by values.old.items) (shown_by values.new.items) result }
 {
-    let Some((name, behind)) = next_line(lines, close)? else {
-        return Ok(None);
+    let [name, behind @ ..] = lines else {
+        await_line(close)?;
+        return Ok(false);
     };
     if !is_named(name.1, &var.name) {
         return Err(refuse(name.0, Why::WrongName));
     }
-    let Some((text, behind)) = next_line(behind, close)? else {
-        return Ok(None);
+    let [text, marks @ ..] = behind else {
+        await_line(close)?;
+        return Ok(false);
     };
     let unmarked = Unmarked::read(arena, var.kind, text.0, text.1)?;
-    let Some((mark, behind)) = next_line(behind, close)? else {
-        return Ok(None);
+    let [mark, ..] = marks else {
+        await_line(close)?;
+        return Ok(false);
     };
     let value = unmarked.with_mark(mark.0, mark.1)?;
     push_shown(values, value)?;
-    Ok(Some(behind))
+    Ok(true)
 }
 
 // No values, and room for so many.
@@ -100,28 +100,27 @@ fn room_for<'a>(arena: &'a Arena, len: usize) -> Result<Vec<View<'a>, &'a Arena>
 
 /// The values that the lines of a record give, or their first fault. Of a record that is cut off, those that stand whole in front of the
 /// cut.
-pub(crate) fn read_values<'a, 'b>(
+pub(crate) fn read_values<'a>(
     arena: &'a Arena,
     vars: &[VarDecl],
-    lines: &'b [(u64, &'b [u8])],
+    lines: &[(u64, &[u8])],
     close: Option<u64>,
 ) -> Result<&'a [View<'a>], BlockFault>
     ensures { Shows (λ views. shown_by views.now) result (record_values vars.now (map line_of lines.now) close) }
 {
     let mut values = room_for(arena, vars.len())?;
-    let mut left = lines;
+    let mut at = 0;
     for var in vars {
         if var.constant_line {
             push_constant(arena, &mut values, &var.constant)?;
+        } else if read_variable(arena, var, &lines[at..], close, &mut values)? {
+            at += LINES_OF_A_VARIABLE;
         } else {
-            match read_variable(arena, var, left, close, &mut values)? {
-                Some(behind) => left = behind,
-                None => return Ok(into_bump_slice(values)),
-            }
+            return Ok(into_bump_slice(values));
         }
     }
-    match left {
-        [] => Ok(into_bump_slice(values)),
-        [line, ..] => Err(refuse(line.0, Why::ExtraLine)),
+    match lines.get(at) {
+        None => Ok(into_bump_slice(values)),
+        Some(line) => Err(refuse(line.0, Why::ExtraLine)),
     }
 }
