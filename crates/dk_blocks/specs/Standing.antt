@@ -24,6 +24,11 @@ pub record KeepsAll (kept : Kept) (h : History) : Type 0 where
 unfoldable pub Stands : Kept → History → Type 0
 Stands kept h = KeepsAll kept h
 
+-- What a call leaves behind its reference, if it succeeds; after a fault nothing is said of it.
+abbrev pub left_behind : {A B E : Type 0} → B → Result A E → Result B E
+left_behind b (Ok x) = Ok b
+left_behind b (Err e) = Err e
+
 -- what a call leaves behind its reference, beside what it answers
 abbrev pub left_with_answer : {A B E : Type 0} → B → Result A E → Result (B × A) E
 left_with_answer b (Ok x) = Ok (b, x)

@@ -1,12 +1,14 @@
 -- A fault of the first lines of a declaration is that of all of them.
-use Rattle.std.proofs.Common.{◌≡◌, ◌∙◌, ◌++◌, ℕ, Bool, true, false, List, [], ◌∷◌, Option, Some, None, Result, Ok, Err, refl, sym, ap, if◌then◌else◌}
+use Rattle.std.proofs.Common.{◌≡◌, ◌∙◌, ◌++◌, ℕ, Bool, true, false, List, [], ◌∷◌, append_assoc, append-nil, Option, Some, None, Result, Ok, Err, refl, sym, ap, if◌then◌else◌}
 use Rattle.dk_base.specs.Reading.{Line, LineFault, ◌>>=◌}
+use Rattle.dk_base.specs.declared.faults.BlockFault.{BlockFault}
+use Rattle.dk_base.specs.declared.faults.BlockFault.TheVariants.{Refused, NoMemory}
 use Rattle.dk_decl.specs.Blocks.{block_decl, is_declare}
 use Rattle.dk_decl.specs.DeclareBlock.{comparability, declare_lines, from_comparability, from_name, from_type, new_name, old_form_var, representation}
 use Rattle.dk_decl.specs.Heads.{head_line}
 use Rattle.dk_decl.specs.LineWords.{each_line}
 use Rattle.dk_decl.specs.OpenBlocks.{FirstFaultsStay}
-use Rattle.dk_decl.specs.Outcomes.{FaultsStay}
+use Rattle.dk_decl.specs.Outcomes.{FaultAgrees, FaultAgreesOnward, FaultsStay}
 use Rattle.dk_decl.specs.PptBlock.{groups, has_ended, is_variable, point_name, point_with, ppt_lines, ppt_of, vars_after, with_var}
 use Rattle.dk_decl.proofs.VarGroups.{with_line}
 use Rattle.dk_decl.specs.Variables.{open_var, var_line}
@@ -119,3 +121,20 @@ first_faults_stay implicit first front more close e is = by (is_declare first) i
 pub no_fault_in_front : {A : Type 0} (read : List Line → Option ℕ → Result A LineFault) (front more : List Line) (close : Option ℕ) (x : A)
     → FaultsStay read → read (front ++ more) close ≡ Ok x → (e : LineFault) → read front None ≡ Err e → ⊥
 no_fault_in_front read front more close x stay ok e is = let no = sym (stay front more close e is) ∙ ok in cc no
+
+-- ---- lines that are handed in one after another
+pub faulty_onward : {A : Type 0} (read : List Line → Option ℕ → Result A LineFault) (front : List Line) (e : BlockFault) → FaultsStay read → FaultAgrees e (read front None)
+    → FaultAgreesOnward e (λ ls. read (front ++ ls))
+faulty_onward read front (Refused line why) stay told = λ ls close. stay front ls close (record { line = line; why = why }) told
+faulty_onward read front NoMemory stay told = tt
+
+-- a line more
+pub line_goes : {A : Type 0} (read : List Line → Option ℕ → Result A LineFault) (old new : List Line) (l : Line) → new ≡ old ++ l ∷ []
+    → (ls : List Line) (close : Option ℕ) → read (old ++ l ∷ ls) close ≡ read (new ++ ls) close
+line_goes read old new l is ls close = ap (λ (ms : List Line). read ms close) (sym (ap (λ (ms : List Line). ms ++ ls) is ∙ append_assoc old (l ∷ []) ls))
+
+pub line_faulty : {A : Type 0} (read : List Line → Option ℕ → Result A LineFault) (old new : List Line) (l : Line) (e : BlockFault) → FaultsStay read → new ≡ old ++ l ∷ []
+    → FaultAgrees e (read (new ++ []) None) → FaultAgreesOnward e (λ ls. read (old ++ l ∷ ls))
+line_faulty read old new l (Refused line why) stay is told =
+    λ ls close. line_goes read old new l is ls close ∙ stay new ls close (record { line = line; why = why }) (ap (λ (ms : List Line). read ms None) (sym (append-nil new)) ∙ told)
+line_faulty read old new l NoMemory stay is told = tt

@@ -5,5 +5,6 @@ pub mod LastWord
 pub mod ByPosition
 pub mod VarGroups
 pub mod GatheredLines
+pub mod DeclareLines
 pub mod FirstFaults
 mod Examples

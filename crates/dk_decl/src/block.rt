@@ -48,6 +48,7 @@ impl DeclBlock {
 
     /// A declaration that begins with this line, `ppt NAME` or `DECLARE`, under the comparability word `implicit` or `none`.
     /// It is refused as `BadPoint` where `ppt` has no name.
+    #[tactic(auto, unfolding(crate::specs::Blocks::decl_resumed))]
     pub fn begin(
         alloc: Global,
         line: u64,
@@ -68,6 +69,7 @@ impl DeclBlock {
     }
 
     // What the lines so far declare.
+    #[tactic(auto, unfolding(crate::specs::Blocks::decl_resumed))]
     fn read(&self, is_closed: bool) -> Result<PointDecl, BlockFault>
         ensures { (close : Option ℕ) → is_some close ≡ is_closed → AnswerAgrees result (decl_resumed self.now [] close) }
     {
@@ -82,6 +84,7 @@ impl DeclBlock {
     }
 
     /// The declaration with one line more. It is refused as `BadPoint` or `BadVariable` as soon as no lines behind it can make it good.
+    #[tactic(auto, unfolding(crate::specs::Blocks::decl_resumed))]
     pub fn line(self, line: u64, bytes: &[u8]) -> Result<DeclBlock, BlockFault>
         ensures { ReaderGoesOn decl_resumed result (λ ls. decl_resumed self (record { number = line; bytes = bytes.now } ∷ ls)) }
     {
@@ -92,6 +95,7 @@ impl DeclBlock {
     }
 
     /// What the block declares, where it ends here.
+    #[tactic(auto, unfolding(crate::specs::Blocks::decl_resumed))]
     pub fn end(self) -> Result<PointDecl, BlockFault>
         ensures { (close : ℕ) → AnswerAgrees result (decl_resumed self [] (Some close)) }
     {

@@ -107,6 +107,7 @@ impl<'a> RecordReader<'a> {
     ghost use Rattle.dk_trace.specs.RecordsResumed.{record_resumed};
 
     /// A record that begins with this line. It is refused as `UnknownPoint` where the line spells the name of no declared point.
+    #[tactic(auto, unfolding(crate::specs::RecordsResumed::record_resumed))]
     pub fn begin(
         alloc: Global,
         points: &Points,
@@ -128,6 +129,7 @@ impl<'a> RecordReader<'a> {
     }
 
     // The sample of the lines so far; or their first fault.
+    #[tactic(auto, unfolding(crate::specs::RecordsResumed::record_resumed))]
     fn read<'b>(
         &self,
         points: &Points,
@@ -150,6 +152,7 @@ impl<'a> RecordReader<'a> {
     }
 
     // The first fault of the lines so far, if they have one.
+    #[tactic(auto, unfolding(crate::specs::RecordsResumed::record_resumed))]
     fn judge(&self, points: &Points) -> Result<(), BlockFault>
         ensures { FaultOf result (record_resumed points.now self.now [] None) }
     {
@@ -160,6 +163,7 @@ impl<'a> RecordReader<'a> {
 
     /// One line more. The record is refused as `BadNonce`, `WrongName`, `BadValue`, `BadMark` or `ExtraLine` as soon as no lines behind it
     /// can make it good; after a fault nothing is said of the reader. The points are those of `begin`.
+    #[tactic(auto, unfolding(crate::specs::RecordsResumed::record_resumed))]
     pub fn line(&mut self, points: &Points, line: u64, bytes: &[u8]) -> Result<(), BlockFault>
         ensures { ReaderGoesOn (λ _. record_resumed points.now self.new) result (λ ls. record_resumed points.now self.old (record { number = line; bytes = bytes.now } ∷ ls)) }
     {
@@ -169,6 +173,7 @@ impl<'a> RecordReader<'a> {
 
     /// The sample of a record that ends at this line. It is refused as `Truncated` where a line was still awaited: a nonce, or a variable's
     /// name, value or mark. The points are those of `begin`.
+    #[tactic(auto, unfolding(crate::specs::RecordsResumed::record_resumed))]
     pub fn end(&mut self, points: &Points, line: u64) -> Result<BaseSample<'a>, BlockFault>
         ensures sample { Shows shown result (record_resumed points.now self.old [] (Some line)) }
         ensures of { IfOk result (λ s. s.point.0 < length points.now) }
