@@ -1,7 +1,9 @@
 -- The lines of a variable in a `DECLARE` block, as they are read one by one.
-use Rattle.std.proofs.Common.{◌≡◌, ◌∙◌, ◌≤◌, ◌<◌, ◌-◌, ◌++◌, ℕ, Bool, List, [], ◌∷◌, drop, get_or, length, map, take, Option, Result, Ok, refl, sym, ap, arith}
+use Rattle.std.proofs.Common.{◌≡◌, ◌∙◌, ◌≤◌, ◌<◌, ◌-◌, ◌++◌, ℕ, Bool, List, [], ◌∷◌, drop, get_or, length, map, option_map, take, Option, Some, Result, Ok, refl, sym, ap, arith}
 use Rattle.std.specs.Borrow.{Bor}
-use Rattle.std.proofs.lemmas.List.{take_all}
+use Rattle.std.specs.Prelude.{slice_get}
+use Rattle.std.proofs.lemmas.List.{drop-map, take_all, take_rest}
+use Rattle.std.proofs.lemmas.Option.{slice_get-get_or, slice_get-map}
 use Rattle.dk_base.specs.Reading.{Line, LineFault, ◌>>=◌}
 use Rattle.dk_base.specs.declared.faults.BlockFault.{BlockFault}
 use Rattle.dk_base.specs.declared.faults.BlockFault.TheVariants.{Refused, NoMemory}
@@ -13,19 +15,29 @@ use Rattle.dk_decl.specs.declared.decls.VarDecl.{VarDecl}
 use Rattle.dk_decl.specs.declared.declare.Represented.{Represented}
 
 -- ---- lists as patterns show them
+abbrev pub no_line : ℕ × Bor (List ℕ)
+no_line = (0, record { ref_ptr = (0, 0); now = [] })
+
 abbrev pub behind_first : {A : Type 0} → ℕ → List A → List A
 behind_first n xs = take (length xs - n) (drop n xs)
 
-pub first_line : (d : ℕ × Bor (List ℕ)) (xs : List (ℕ × Bor (List ℕ))) → 1 ≤ length xs → map line_of xs ≡ line_of (get_or xs 0 d) ∷ map line_of (behind_first 1 xs)
-first_line d [] some = absurd (omega (arith, some))
-first_line d (x ∷ xs) some = ap (λ (ys : List (ℕ × Bor (List ℕ))). line_of x ∷ map line_of ys) (sym (take_all (length (x ∷ xs) - 1) xs (omega arith)))
+pub first_line : (xs : List (ℕ × Bor (List ℕ))) → 1 ≤ length xs → map line_of xs ≡ line_of (get_or xs 0 no_line) ∷ map line_of (behind_first 1 xs)
+first_line [] some = absurd (omega (arith, some))
+first_line (x ∷ xs) some = ap (λ (ys : List (ℕ × Bor (List ℕ))). line_of x ∷ map line_of ys) (sym (take_all (length (x ∷ xs) - 1) xs (omega arith)))
 
-pub two_lines : (d : ℕ × Bor (List ℕ)) (xs : List (ℕ × Bor (List ℕ))) → 2 ≤ length xs
-    → map line_of xs ≡ line_of (get_or xs 0 d) ∷ line_of (get_or xs 1 d) ∷ map line_of (behind_first 2 xs)
-two_lines d [] some = absurd (omega (arith, some))
-two_lines d (x ∷ []) some = absurd (omega (arith, some))
-two_lines d (x ∷ y ∷ xs) some =
+pub two_lines : (xs : List (ℕ × Bor (List ℕ))) → 2 ≤ length xs
+    → map line_of xs ≡ line_of (get_or xs 0 no_line) ∷ line_of (get_or xs 1 no_line) ∷ map line_of (behind_first 2 xs)
+two_lines [] some = absurd (omega (arith, some))
+two_lines (x ∷ []) some = absurd (omega (arith, some))
+two_lines (x ∷ y ∷ xs) some =
     ap (λ (ys : List (ℕ × Bor (List ℕ))). line_of x ∷ line_of y ∷ map line_of ys) (sym (take_all (length (x ∷ y ∷ xs) - 2) xs (omega arith)))
+
+pub line_at : (xs : List (ℕ × Bor (List ℕ))) (i : ℕ) → i < length xs → slice_get (map line_of xs) i ≡ Some (line_of (get_or xs i no_line))
+line_at xs i within = slice_get-map line_of xs i ∙ ap (option_map line_of) (slice_get-get_or xs i no_line within)
+
+-- those behind a place
+pub lines_from : (xs : List (ℕ × Bor (List ℕ))) (at : ℕ) → map line_of (take (length xs - at) (drop at xs)) ≡ drop at (map line_of xs)
+lines_from xs at = ap (map line_of) (take_rest xs at) ∙ sym (drop-map line_of at xs)
 
 -- ---- one step behind another
 pub fault_first : {A B : Type 0} (e : BlockFault) (r : Result A LineFault) (f : A → Result B LineFault) → FaultAgrees e r → FaultAgrees e (r >>= f)

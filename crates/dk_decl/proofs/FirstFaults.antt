@@ -128,8 +128,12 @@ pub faulty_onward : {A : Type 0} (read : List Line → Option ℕ → Result A L
 faulty_onward read front (Refused line why) stay told = λ ls close. stay front ls close (record { line = line; why = why }) told
 faulty_onward read front NoMemory stay told = tt
 
+pub onward_at : {A : Type 0} (e : BlockFault) (read : List Line → Option ℕ → Result A LineFault) (ls : List Line) (close : Option ℕ) → FaultAgreesOnward e read → FaultAgrees e (read ls close)
+onward_at (Refused line why) read ls close told = told ls close
+onward_at NoMemory read ls close told = tt
+
 -- a line more
-pub line_goes : {A : Type 0} (read : List Line → Option ℕ → Result A LineFault) (old new : List Line) (l : Line) → new ≡ old ++ l ∷ []
+line_goes : {A : Type 0} (read : List Line → Option ℕ → Result A LineFault) (old new : List Line) (l : Line) → new ≡ old ++ l ∷ []
     → (ls : List Line) (close : Option ℕ) → read (old ++ l ∷ ls) close ≡ read (new ++ ls) close
 line_goes read old new l is ls close = ap (λ (ms : List Line). read ms close) (sym (ap (λ (ms : List Line). ms ++ ls) is ∙ append_assoc old (l ∷ []) ls))
 

@@ -1,10 +1,13 @@
 -- The lines of a `ppt` block, a variable at a time.
-use Rattle.std.proofs.Common.{◌≡◌, ◌∙◌, ◌||◌, ◌+◌, ◌++◌, not, ℕ, zero, suc, Bool, true, false, List, [], ◌∷◌, append_assoc, append-nil, drop, length, slice_get, take, is_some, Option, Some, None, Result, Ok, Err, refl, sym, ap, arith, subst, if◌then◌else◌}
-use Rattle.std.proofs.lemmas.List.{drop_all}
+use Rattle.std.proofs.Common.{◌≡◌, ◌∙◌, ◌||◌, ◌+◌, ◌++◌, not, ℕ, zero, suc, Bool, true, false, List, [], ◌∷◌, append_assoc, append-nil, drop, length, ltb, take, is_some, Option, Some, None, Result, Ok, Err, refl, sym, ap, arith, subst, if◌then◌else◌}
+use Rattle.std.proofs.lemmas.List.{at_drop_all, at_drop_more, drop_all, drop-drop}
+use Rattle.std.proofs.lemmas.Bool.{ltb-false, ltb-true}
+use Rattle.std.specs.Prelude.{slice_get}
 use Rattle.dk_base.specs.Pieces.{is_empty}
 use Rattle.dk_base.specs.Reading.{Line, LineFault, ◌>>=◌}
+use Rattle.dk_decl.specs.Heads.{head_line}
 use Rattle.dk_decl.specs.LineWords.{each_line}
-use Rattle.dk_decl.specs.PptBlock.{AreOwn, groups, has_ended, is_variable, vars_after, with_var}
+use Rattle.dk_decl.specs.PptBlock.{AreOwn, groups, has_ended, is_variable, point_name, point_with, ppt_lines, ppt_of, vars_after, with_var}
 use Rattle.dk_decl.specs.Variables.{open_var, var_line}
 use Rattle.dk_decl.specs.declared.decls.EdgeDecl.{EdgeDecl}
 use Rattle.dk_decl.specs.declared.decls.VarDecl.{VarDecl}
@@ -93,3 +96,59 @@ passed_all ls passed =
     let none : drop (length ls) ls ≡ [] = drop_all (length ls) ls (omega arith) in
     (passed.0 ∙ ap (λ (ds : List Line). take (length ls) ls ++ (groups ds).0) none ∙ append-nil (take (length ls) ls),
     ap groups none ∙ ap (λ (gs : List (Line × List Line)). ([], gs)) (sym (passed.1 ∙ ap (λ (ds : List Line). (groups ds).1) none)))
+
+-- ---- one variable behind another
+module _ (implicit : Bool) (es : List EdgeDecl) (ls : List Line) (at own : ℕ) (first : Line) (here : slice_get ls at ≡ Some first) (begins : (groups (drop at ls)).0 ≡ []) (are_own : AreOwn own (drop (at + 1) ls)) where
+  next_at : drop at ls ≡ first ∷ drop (at + 1) ls
+  next_at = let next : suc at ≡ at + 1 = omega arith in drop_next ls at first here ∙ ap (λ (n : ℕ). first ∷ drop n ls) next
+
+  behind_own : drop own (drop (at + 1) ls) ≡ drop (at + (own + 1)) ls
+  behind_own = let sum : (at + 1) + own ≡ at + (own + 1) = omega arith in drop-drop own (at + 1) ls ∙ ap (λ (n : ℕ). drop n ls) sum
+
+  pub others_begin : (groups (drop (at + (own + 1)) ls)).0 ≡ []
+  others_begin = ap (λ (ds : List Line). (groups ds).0) (sym behind_own) ∙ ap (λ (g : List Line × List (Line × List Line)). g.0) are_own.1
+
+  pub group_next : (vs : List VarDecl) (close : Option ℕ) → vars_after implicit es vs (groups (drop at ls)).1 close
+      ≡ next_var implicit es vs first (take own (drop (at + 1) ls)) (drop (at + (own + 1)) ls) close
+  group_next vs close =
+      ap (λ (ds : List Line). vars_after implicit es vs (groups ds).1 close) next_at
+      ∙ var_next implicit es vs first (drop (at + 1) ls) (take own (drop (at + 1) ls)) (drop (at + (own + 1)) ls) close
+      (ap (λ (ds : List Line). (groups ds).0) (sym next_at) ∙ begins) (sym are_own.0) (ap groups (sym behind_own) ∙ are_own.1)
+
+  -- its lines are read, and it ends
+  pub group_opened : (vs : List VarDecl) (o : OpenVar) (close : Option ℕ) → open_var vs first ≡ Ok o → vars_after implicit es vs (groups (drop at ls)).1 close
+      ≡ (each_line (var_line implicit es) o (take own (drop (at + 1) ls)) >>= λ w. with_var vs w (is_some close || not (is_empty (drop (at + (own + 1)) ls))) >>= λ more. vars_after implicit es more (groups (drop (at + (own + 1)) ls)).1 close)
+  group_opened vs o close opens =
+      group_next vs close
+      ∙ ap (λ (r : Result OpenVar LineFault). r >>= λ o. each_line (var_line implicit es) o (take own (drop (at + 1) ls)) >>= λ w. with_var vs w (is_some close || not (is_empty (drop (at + (own + 1)) ls))) >>= λ more. vars_after implicit es more (groups (drop (at + (own + 1)) ls)).1 close) opens
+
+  pub group_ended : (vs : List VarDecl) (o w : OpenVar) (b : Bool) (close : Option ℕ) → open_var vs first ≡ Ok o → each_line (var_line implicit es) o (take own (drop (at + 1) ls)) ≡ Ok w
+      → b ≡ (is_some close || not (is_empty (drop (at + (own + 1)) ls)))
+      → vars_after implicit es vs (groups (drop at ls)).1 close ≡ (with_var vs w b >>= λ more. vars_after implicit es more (groups (drop (at + (own + 1)) ls)).1 close)
+  group_ended vs o w b close opens reads ends =
+      group_opened vs o close opens
+      ∙ ap (λ (r : Result OpenVar LineFault). r >>= λ w. with_var vs w (is_some close || not (is_empty (drop (at + (own + 1)) ls))) >>= λ more. vars_after implicit es more (groups (drop (at + (own + 1)) ls)).1 close) reads
+      ∙ ap (λ (b : Bool). with_var vs w b >>= λ more. vars_after implicit es more (groups (drop (at + (own + 1)) ls)).1 close) (sym ends)
+
+-- whether a line stands behind so many
+left_over : (n : ℕ) (ls : List Line) (l : Line) → not (is_empty (drop n ls)) ≡ ltb n (length ls)
+left_over n ls l = by (ltb n (length ls)) refl
+  where
+    by : (b : Bool) → ltb n (length ls) ≡ b → not (is_empty (drop n ls)) ≡ b
+    by true is = at_drop_more (λ (ds : List Line). not (is_empty ds)) ls n l (ltb-true n (length ls) is)
+    by false is = at_drop_all (λ (ds : List Line). not (is_empty ds)) ls n (ltb-false n (length ls) is)
+
+pub ends_closed : (b closed : Bool) (close : Option ℕ) (n : ℕ) (ls : List Line) → is_some close ≡ closed → b ≡ true → closed ≡ true → b ≡ (is_some close || not (is_empty (drop n ls)))
+ends_closed b closed close n ls is here shut = here ∙ ap (λ (p : Bool). p || not (is_empty (drop n ls))) (sym (is ∙ shut))
+
+pub ends_later : (b closed : Bool) (close : Option ℕ) (n : ℕ) (ls : List Line) (l : Line) → is_some close ≡ closed → b ≡ ltb n (length ls) → closed ≡ false → b ≡ (is_some close || not (is_empty (drop n ls)))
+ends_later b closed close n ls l is here shut = here ∙ sym (left_over n ls l) ∙ ap (λ (p : Bool). p || not (is_empty (drop n ls))) (sym (is ∙ shut))
+
+-- ---- the whole block
+pub ppt_read : (implicit : Bool) (first : Line) (name : List ℕ) (ls : List Line) (own : ℕ) (close : Option ℕ) → point_name first ≡ Ok name → AreOwn own ls
+    → ppt_of implicit first ls close ≡ (each_line head_line [] (take own ls) >>= λ es. point_with name es (vars_after implicit es [] (groups (drop own ls)).1 close))
+unfolding ppt_of ppt_lines
+ppt_read implicit first name ls own close named are_own =
+    ap (λ (r : Result (List ℕ) LineFault). r >>= λ name. ppt_lines implicit name ls close) named
+    ∙ ap (λ (hs : List Line). each_line head_line [] hs >>= λ es. point_with name es (vars_after implicit es [] (groups ls).1 close)) are_own.0
+    ∙ ap (λ (gs : List (Line × List Line)). each_line head_line [] (take own ls) >>= λ es. point_with name es (vars_after implicit es [] gs close)) (sym (ap (λ (g : List Line × List (Line × List Line)). g.1) are_own.1))

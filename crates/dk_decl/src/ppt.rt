@@ -76,11 +76,20 @@ fn read_lines(
     Ok(var)
 }
 
-// The variables and one that ends behind them.
-fn with_var(alloc: Global, vars: Vars, ended: OpenVar) -> Result<Vars, BlockFault>
-    ensures { AnswerAgrees result (with_var vars ended true) }
+// The variables with this one, if it has ended.
+#[tactic(auto, unfolding(crate::specs::PptBlock::with_var))]
+fn with_var(
+    alloc: Global,
+    vars: Vars,
+    opened: OpenVar,
+    has_ended: bool,
+) -> Result<Vars, BlockFault>
+    ensures { AnswerAgrees result (with_var vars opened has_ended) }
 {
-    let var = close_var(alloc, ended)?;
+    if !has_ended {
+        return Ok(vars);
+    }
+    let var = close_var(alloc, opened)?;
     in_memory(vars.with(var))
 }
 
@@ -103,9 +112,8 @@ fn read_vars(
         let opened = open_var(alloc, &vars, lines[at].0, lines[at].1)?;
         let var = read_lines(alloc, implicit, edges, opened, &behind[..own])?;
         at += own + 1;
-        if is_closed || at < lines.len() {
-            vars = with_var(alloc, vars, var)?;
-        }
+        let has_ended = is_closed || at < lines.len();
+        vars = with_var(alloc, vars, var, has_ended)?;
     }
     Ok(vars)
 }
