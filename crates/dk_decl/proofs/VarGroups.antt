@@ -79,23 +79,26 @@ passed_more ls i l at is passed =
     let g : List Line × List (Line × List Line) = groups (drop (suc i) ls) in
     let e : groups (drop i ls) ≡ (l ∷ g.0, g.1) = at_line ls i l false at is in
     let next : suc i ≡ i + 1 = omega arith in
-    subst (λ (n : ℕ). ArePassed n ls) next
-    (passed.0 ∙ ap (λ (h : List Line × List (Line × List Line)). take i ls ++ h.0) e ∙ sym (append_assoc (take i ls) (l ∷ []) g.0)
-    ∙ ap (λ (ts : List Line). ts ++ g.0) (sym (take_next ls i l at)),
-    passed.1 ∙ ap (λ (h : List Line × List (Line × List Line)). h.1) e)
+    subst (λ (n : ℕ). ArePassed n ls) next (
+      passed.0 ∙ ap (λ (h : List Line × List (Line × List Line)). take i ls ++ h.0) e ∙ sym (append_assoc (take i ls) (l ∷ []) g.0)
+          ∙ ap (λ (ts : List Line). ts ++ g.0) (sym (take_next ls i l at)),
+      passed.1 ∙ ap (λ (h : List Line × List (Line × List Line)). h.1) e,
+    )
 
 pub passed_here : (ls : List Line) (i : ℕ) (l : Line) → slice_get ls i ≡ Some l → is_variable l ≡ true → ArePassed i ls → AreOwn i ls
 passed_here ls i l at is passed =
     let g : List Line × List (Line × List Line) = groups (drop (suc i) ls) in
-    let e : groups (drop i ls) ≡ ([], (l, g.0) ∷ g.1) = at_line ls i l true at is in
-    (passed.0 ∙ ap (λ (h : List Line × List (Line × List Line)). take i ls ++ h.0) e ∙ append-nil (take i ls),
-    e ∙ ap (λ (gs : List (Line × List Line)). ([], gs)) (sym (passed.1 ∙ ap (λ (h : List Line × List (Line × List Line)). h.1) e)))
+    let e : groups (drop i ls) ≡ ([], (l, g.0) ∷ g.1) = at_line ls i l true at is in (
+      passed.0 ∙ ap (λ (h : List Line × List (Line × List Line)). take i ls ++ h.0) e ∙ append-nil (take i ls),
+      e ∙ ap (λ (gs : List (Line × List Line)). ([], gs)) (sym (passed.1 ∙ ap (λ (h : List Line × List (Line × List Line)). h.1) e)),
+    )
 
 pub passed_all : (ls : List Line) → ArePassed (length ls) ls → AreOwn (length ls) ls
 passed_all ls passed =
-    let none : drop (length ls) ls ≡ [] = drop_all (length ls) ls (omega arith) in
-    (passed.0 ∙ ap (λ (ds : List Line). take (length ls) ls ++ (groups ds).0) none ∙ append-nil (take (length ls) ls),
-    ap groups none ∙ ap (λ (gs : List (Line × List Line)). ([], gs)) (sym (passed.1 ∙ ap (λ (ds : List Line). (groups ds).1) none)))
+    let none : drop (length ls) ls ≡ [] = drop_all (length ls) ls (omega arith) in (
+      passed.0 ∙ ap (λ (ds : List Line). take (length ls) ls ++ (groups ds).0) none ∙ append-nil (take (length ls) ls),
+      ap groups none ∙ ap (λ (gs : List (Line × List Line)). ([], gs)) (sym (passed.1 ∙ ap (λ (ds : List Line). (groups ds).1) none)),
+    )
 
 -- ---- one variable behind another
 module _ (implicit : Bool) (es : List EdgeDecl) (ls : List Line) (at own : ℕ) (first : Line) (here : slice_get ls at ≡ Some first) (begins : (groups (drop at ls)).0 ≡ []) (are_own : AreOwn own (drop (at + 1) ls)) where

@@ -78,12 +78,7 @@ fn read_lines(
 
 // The variables with this one, if it has ended.
 #[tactic(auto, unfolding(crate::specs::PptBlock::with_var))]
-fn with_var(
-    alloc: Global,
-    vars: Vars,
-    opened: OpenVar,
-    has_ended: bool,
-) -> Result<Vars, BlockFault>
+fn with_var(alloc: Global, vars: Vars, opened: OpenVar, has_ended: bool) -> Result<Vars, BlockFault>
     ensures { AnswerAgrees result (with_var vars opened has_ended) }
 {
     if !has_ended {

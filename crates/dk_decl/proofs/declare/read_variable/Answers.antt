@@ -39,10 +39,12 @@ returns c =
     let all : map line_of xs ≡ l ∷ t ∷ r ∷ k ∷ map line_of (behind_first 1 more) =
     first_line xs c.in-len1-up.len_at_least
     ∙ ap (λ (ms : List Line). l ∷ ms) (two_lines behind c.in-len2-up.len_at_least)
-    ∙ ap (λ (ms : List Line). l ∷ t ∷ r ∷ ms) (first_line more c.in-len1-up-others.len_at_least) in
-    (subst (λ (ms : List Line). 4 ≤ length ms) (sym all) (omega arith), λ close.
-    named c.args.implicit vs close (map line_of xs) (map line_of behind) l c.in_ok-name.name (first_line xs c.in-len1-up.len_at_least) c.in_ok-name.ensures
-    ∙ represented c.args.implicit vs close number c.in_ok-name.name (map line_of behind) (map line_of more) t r c.in_ok-represented.represented (two_lines behind c.in-len2-up.len_at_least) c.in_ok-represented.ensures
-    ∙ compared c.args.implicit vs close number c.in_ok-name.name c.in_ok-represented.represented (map line_of more) (map line_of (behind_first 1 more)) k c.in_ok-compar.compar (first_line more c.in-len1-up-others.len_at_least) c.in_ok-compar.ensures
-    ∙ ap (λ (v : VarDecl). from_name c.args.implicit (vs ++ v ∷ []) (map line_of (behind_first 1 more)) close) (sym c.declared_var.ensures)
-    ∙ ap (λ (ms : List Line). from_name c.args.implicit (vs ++ c.declared_var.result ∷ []) (drop 4 ms) close) (sym all))
+    ∙ ap (λ (ms : List Line). l ∷ t ∷ r ∷ ms) (first_line more c.in-len1-up-others.len_at_least) in (
+      subst (λ (ms : List Line). 4 ≤ length ms) (sym all) (omega arith),
+      λ close.
+          named c.args.implicit vs close (map line_of xs) (map line_of behind) l c.in_ok-name.name (first_line xs c.in-len1-up.len_at_least) c.in_ok-name.ensures
+          ∙ represented c.args.implicit vs close number c.in_ok-name.name (map line_of behind) (map line_of more) t r c.in_ok-represented.represented (two_lines behind c.in-len2-up.len_at_least) c.in_ok-represented.ensures
+          ∙ compared c.args.implicit vs close number c.in_ok-name.name c.in_ok-represented.represented (map line_of more) (map line_of (behind_first 1 more)) k c.in_ok-compar.compar (first_line more c.in-len1-up-others.len_at_least) c.in_ok-compar.ensures
+          ∙ ap (λ (v : VarDecl). from_name c.args.implicit (vs ++ v ∷ []) (map line_of (behind_first 1 more)) close) (sym c.declared_var.ensures)
+          ∙ ap (λ (ms : List Line). from_name c.args.implicit (vs ++ c.declared_var.result ∷ []) (drop 4 ms) close) (sym all),
+    )

@@ -53,7 +53,7 @@ returns-in_err-vars c close is =
     let reads : each_line (var_line c.args.implicit c.args.edges.now) c.in_ok-opened.opened (take own (drop (at + 1) ls)) ≡ Ok c.in_ok-var.var =
     ap (λ (ms : List Line). each_line (var_line c.args.implicit c.args.edges.now) c.in_ok-opened.opened ms) (sym own_are) ∙ c.in_ok-var.ensures in
     let ends : c.if-is_closed.has_ended ≡ (is_some close || not (is_empty (drop (at + (own + 1)) ls))) = elim c.if-is_closed.branch [
-      | then-is_closed w ↦ ends_closed c.if-is_closed.has_ended c.args.is_closed close (at + (own + 1)) ls is w.has_ended-is w.if-is_closed.true
+      | then-is_closed w ↦ ends_closed c.if-is_closed.has_ended c.args.is_closed close (at + (own + 1)) ls is (w.has_ended-is ∙ w.if-is_closed.true) w.if-is_closed.true
       | else-is_closed w ↦ ends_later c.if-is_closed.has_ended c.args.is_closed close (at + (own + 1)) ls first is (w.has_ended-is ∙ ap (ltb (at + (own + 1))) (sym (length-map xs line_of))) w.if-is_closed.false
     ] in
     let fault = err_from_is_err_and c.from_residual-in_err-vars.result c.from_residual-in_err-vars.ensures.1 in
@@ -83,7 +83,7 @@ vars-preserved c =
           let reads : each_line (var_line c.args.implicit c.args.edges.now) c.in_ok-opened.opened (take own (drop (at + 1) ls)) ≡ Ok c.in_ok-var.var =
           ap (λ (ms : List Line). each_line (var_line c.args.implicit c.args.edges.now) c.in_ok-opened.opened ms) (sym own_are) ∙ c.in_ok-var.ensures in
           let ends : c.if-is_closed.has_ended ≡ (is_some close || not (is_empty (drop (at + (own + 1)) ls))) = elim c.if-is_closed.branch [
-            | then-is_closed w ↦ ends_closed c.if-is_closed.has_ended c.args.is_closed close (at + (own + 1)) ls is w.has_ended-is w.if-is_closed.true
+            | then-is_closed w ↦ ends_closed c.if-is_closed.has_ended c.args.is_closed close (at + (own + 1)) ls is (w.has_ended-is ∙ w.if-is_closed.true) w.if-is_closed.true
             | else-is_closed w ↦ ends_later c.if-is_closed.has_ended c.args.is_closed close (at + (own + 1)) ls first is (w.has_ended-is ∙ ap (ltb (at + (own + 1))) (sym (length-map xs line_of))) w.if-is_closed.false
           ] in
           here ∙ group_ended c.args.implicit c.args.edges.now ls at own first (line_at xs at within) begins are_own vs c.in_ok-opened.opened c.in_ok-var.var c.if-is_closed.has_ended close c.in_ok-opened.ensures reads ends
