@@ -25,6 +25,10 @@ pub first_line : (xs : List (ℕ × Bor (List ℕ))) → 1 ≤ length xs → map
 first_line [] some = absurd (omega (arith, some))
 first_line (x ∷ xs) some = ap (λ (ys : List (ℕ × Bor (List ℕ))). line_of x ∷ map line_of ys) (sym (take_all (length (x ∷ xs) - 1) xs (omega arith)))
 
+pub no_lines : (xs : List (ℕ × Bor (List ℕ))) → length xs < 1 → map line_of xs ≡ []
+no_lines [] none = refl
+no_lines (x ∷ xs) none = absurd (omega (arith, none))
+
 pub two_lines : (xs : List (ℕ × Bor (List ℕ))) → 2 ≤ length xs
     → map line_of xs ≡ line_of (get_or xs 0 no_line) ∷ line_of (get_or xs 1 no_line) ∷ map line_of (behind_first 2 xs)
 two_lines [] some = absurd (omega (arith, some))

@@ -133,7 +133,7 @@ onward_at (Refused line why) read ls close told = told ls close
 onward_at NoMemory read ls close told = tt
 
 -- a line more
-line_goes : {A : Type 0} (read : List Line → Option ℕ → Result A LineFault) (old new : List Line) (l : Line) → new ≡ old ++ l ∷ []
+pub line_goes : {A : Type 0} (read : List Line → Option ℕ → Result A LineFault) (old new : List Line) (l : Line) → new ≡ old ++ l ∷ []
     → (ls : List Line) (close : Option ℕ) → read (old ++ l ∷ ls) close ≡ read (new ++ ls) close
 line_goes read old new l is ls close = ap (λ (ms : List Line). read ms close) (sym (ap (λ (ms : List Line). ms ++ ls) is ∙ append_assoc old (l ∷ []) ls))
 

@@ -1,13 +1,15 @@
 -- A fault of the first lines of a record is that of all of them.
 use Rattle.std.proofs.Common.{◌≡◌, ◌++◌, ℕ, Bool, true, false, List, [], ◌∷◌, Option, Some, None, Result, Ok, Err, IsOk, refl, sym, ◌∙◌, if◌then◌else◌}
-use Rattle.dk_base.specs.Reading.{Line, LineFault}
+use Rattle.dk_base.specs.Reading.{Line, LineFault, Reads}
+use Rattle.dk_base.specs.declared.faults.BlockFault.{BlockFault}
 use Rattle.dk_base.specs.declared.values.Value.{Value}
-use Rattle.dk_decl.proofs.FirstFaults.{stays_behind, stays_first}
-use Rattle.dk_decl.specs.Outcomes.{FaultsStay}
+use Rattle.dk_decl.proofs.FirstFaults.{line_faulty, line_goes, stays_behind, stays_first}
+use Rattle.dk_decl.specs.Outcomes.{FaultsStay, ReaderGoesOn}
 use Rattle.dk_decl.specs.declared.decls.VarDecl.{VarDecl}
 use Rattle.dk_trace.specs.Bodies.{body_of, body_with, from_nonce, is_nonce_line, nonce_of}
 use Rattle.dk_trace.specs.Marks.{marked_value}
 use Rattle.dk_trace.specs.OpenRecords.{FirstFaultsStay}
+use Rattle.dk_trace.specs.Reading.{FaultOf}
 use Rattle.dk_trace.specs.Records.{point_named_by, sample_of, sample_with, var_decls_at}
 use Rattle.dk_trace.specs.Values.{from_name, from_value, known_values, named_kind, record_values, then_values}
 
@@ -79,3 +81,9 @@ unfolding sample_of
 first_faults_stay ps first front more close e is =
     stays_behind (point_named_by ps first) (λ p. sample_with p first.number (body_of (var_decls_at ps p) front None)) (λ p. sample_with p first.number (body_of (var_decls_at ps p) (front ++ more) close)) e
     (λ p. stays_first (body_of (var_decls_at ps p) front None) (body_of (var_decls_at ps p) (front ++ more) close) _ _ e (λ d. bodies_stay (var_decls_at ps p) front more close d) (λ b h. cc h)) is
+
+-- ---- lines that are handed in one after another
+pub line_judged : {A : Type 0} (read : Reads A) (old new : List Line) (l : Line) (r : Result Unit BlockFault) → FaultsStay read → new ≡ old ++ l ∷ [] → FaultOf r (read (new ++ []) None)
+    → ReaderGoesOn (λ _ ls. read (new ++ ls)) r (λ ls. read (old ++ l ∷ ls))
+line_judged read old new l (Ok fine) stay is ok = line_goes read old new l is
+line_judged read old new l (Err e) stay is told = line_faulty read old new l e stay is told
