@@ -4,10 +4,12 @@ use Rattle.std.specs.Prelude.{nat_eq}
 use Rattle.std.specs.List.{starts_with}
 use Rattle.std.specs.Str.{bytes_eq}
 use Rattle.std.proofs.lemmas.Slice.Eq.{bytes_eq-Decides}
+use Rattle.dk_base.specs.Pieces.{is_empty}
 use Rattle.dk_base.specs.Reading.{Line, LineFault, Reads, ◌>>=◌}
 use Rattle.dk_base.specs.declared.why.Why.{Why}
 use Rattle.dk_base.specs.declared.why.Why.TheVariants.{BadHeader}
 use Rattle.dk_decl.proofs.FirstFaults.{first_faults_stay as decl_stays, stays_first}
+use Rattle.dk_decl.specs.BlockLines.{only_bytes}
 use Rattle.dk_decl.specs.Blocks.{block_decl}
 use Rattle.dk_decl.specs.Headers.{comparability_word, header_line, is_implicit}
 use Rattle.dk_decl.specs.LineWords.{begins}
@@ -140,6 +142,14 @@ unfolding effect_of
 no_lines ignores h close = refl
 
 -- ---- lines that are left out
+pub only_line : (ls : List Line) (bytes : List ℕ) → Some bytes ≡ only_bytes ls → (l : Line) × (ls ≡ l ∷ []) × (l.bytes ≡ bytes)
+only_line [] bytes is = absurd (cc is)
+only_line (l ∷ []) bytes is = let same : bytes ≡ l.bytes = cc is in (l, refl, sym same)
+only_line (l ∷ m ∷ ls) bytes is = absurd (cc is)
+
+pub none_there : (ls : List Line) → is_empty ls ≡ true → ls ≡ []
+none_there [] is = refl
+none_there (l ∷ ls) is = absurd (cc is)
 
 -- a comment in front of a block
 pub past_comment : (ignores : Bool) (h : History) (l : Line) (ls : List Line) (close : Option ℕ) → is_comment l.bytes ≡ true → effect_of ignores h (l ∷ ls) close ≡ effect_of ignores h ls close

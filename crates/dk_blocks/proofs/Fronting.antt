@@ -10,7 +10,9 @@ use Rattle.dk_decl.specs.Outcomes.{refused, FaultAgrees}
 use Rattle.dk_decl.specs.declared.header.Header.{Header}
 use Rattle.dk_blocks.specs.Fronts.{Front, at_header_line, block_front, is_comment}
 use Rattle.dk_blocks.specs.History.{History, Taken, after_declaration, after_front, after_record, after_sample, block, is_declaration, is_list_of_implementors, where_it_ends}
+use Rattle.dk_blocks.specs.Judging.{FrontLineRead}
 use Rattle.dk_blocks.specs.Standing.{Closes, DeclaredAs}
+use Rattle.dk_blocks.specs.declared.judging.FrontLine.TheVariants as kind
 
 -- ---- the front of a block
 
@@ -44,6 +46,23 @@ pub answered_fault : (o : Option (Result Header Why)) (h h' : Header) (why : Why
 answered_fault None h h' why a = let e = a.0 in absurd (cc (e))
 answered_fault (Some (Ok next)) h h' why a = let e = a.0 in absurd (cc (e))
 answered_fault (Some (Err w)) h h' why a = let e = a.0 in let same : w ≡ why = cc in ap (λ (x : Why). let r : Result Header Why = Err x in Some r) same
+
+-- one line in front, as it is read
+pub front_passed : (header next : Header) (last : Option ℕ) (l : Line) (ls : List Line) → FrontLineRead header next l (Ok kind.Comment) → block_front header last (l ∷ ls) ≡ block_front next last ls
+front_passed header next last l ls read = front_comment header last l ls read.0 ∙ ap (λ (h : Header). block_front h last ls) (sym read.1)
+
+pub front_taken : (header next : Header) (last : Option ℕ) (l : Line) (ls : List Line) → FrontLineRead header next l (Ok kind.Header) → block_front header last (l ∷ ls) ≡ block_front next (Some l.number) ls
+front_taken header next last l ls read = front_header header last l ls (Some (Ok next)) read.0 read.1
+
+pub front_ends : (header next : Header) (last : Option ℕ) (l : Line) (ls : List Line) → FrontLineRead header next l (Ok kind.Record)
+    → block_front header last (l ∷ ls) ≡ Ok (record { header = next; last = last; lines = l ∷ ls })
+front_ends header next last l ls read =
+    front_record header last l ls read.0 read.1 ∙ ap (λ (h : Header). let r : Result Front LineFault = Ok (record { header = h; last = last; lines = l ∷ ls }) in r) (sym read.2)
+
+pub front_refused : (header next : Header) (last : Option ℕ) (l : Line) (ls : List Line) (e : BlockFault) → FrontLineRead header next l (Err e) → FaultAgrees e (block_front header last (l ∷ ls))
+front_refused header next last l ls (Refused line why) read =
+    front_header header last l ls (Some (Err why)) read.0 read.1 ∙ ap (λ (n : ℕ). let r : Result Front LineFault = refused why n in r) (sym read.2)
+front_refused header next last l ls NoMemory read = absurd read
 
 -- the first line of the record
 pub at_record : (ignores : Bool) (h : History) (header : Header) (last : Option ℕ) (l : Line) (ls : List Line) (close : Option ℕ) → is_comment l.bytes ≡ false

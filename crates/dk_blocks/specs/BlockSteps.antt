@@ -1,5 +1,5 @@
 -- Steps of a reader block by block, of which those of `next` are made.
-use Rattle.std.specs.Prelude.{◌≡◌, not, ◌-◌, ℕ, Bool, true, false, List, ◌++◌, length, ⊤, Option, Some, None, Result, Ok, Err}
+use Rattle.std.specs.Prelude.{◌≡◌, not, ◌-◌, ℕ, Bool, true, false, List, ◌++◌, length, ⊤, Option, Some, None, Result, Ok, Err, []}
 use Rattle.dk_base.specs.Reading.{Reads}
 use Rattle.dk_base.specs.declared.faults.BlockFault.{BlockFault}
 use Rattle.dk_base.specs.declared.faults.BlockFault.TheVariants as r

@@ -55,10 +55,7 @@ fn front_line(header: &mut Header, line: u64, bytes: &[u8]) -> Result<FrontLine,
 }
 
 // Comments are passed over, and header lines are put in force, up to the first line of the record.
-fn read_front<'b>(
-    mut header: Header,
-    lines: &'b [(u64, &'b [u8])],
-) -> Result<Front<'b>, BlockFault>
+fn read_front<'b>(mut header: Header, lines: &'b [(u64, &'b [u8])]) -> Result<Front<'b>, BlockFault>
     ensures { FrontRead result (block_front header None (map line_of lines.now)) }
 {
     let mut last = None;

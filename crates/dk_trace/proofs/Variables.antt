@@ -12,19 +12,19 @@ use Rattle.dk_base.specs.declared.why.Why.TheVariants.{ExtraLine, Truncated, Wro
 use Rattle.dk_decl.specs.Outcomes.{FaultAgrees, refused}
 use Rattle.dk_decl.specs.declared.decls.VarDecl.{VarDecl}
 use Rattle.dk_trace.specs.Marks.{marked_value}
-use Rattle.dk_trace.specs.Values.{from_mark, from_name, from_value, named_kind, next_line, record_values, then_values}
+use Rattle.dk_trace.specs.Values.{from_mark, from_name, from_value, named_kind, next_line, no_more, record_values, then_values}
 use Rattle.dk_trace.proofs.Joined.{then_values_append}
 use Rattle.dk_trace.proofs.Left.{none_left, told_next, too_many}
 
 -- ---- a line is awaited, and there is none
-pub awaited_fault : {A : Type 0} (known : A) (read : Line → Reads A) (close : Option ℕ) (e : BlockFault) → FaultAgrees e (next_line tt (λ _ _ _. Ok tt) [] close)
+pub awaited_fault : {A : Type 0} (known : A) (read : Line → Reads A) (close : Option ℕ) (e : BlockFault) → FaultAgrees e (no_more close)
     → FaultAgrees e (next_line known read [] close)
 awaited_fault known read None (Refused line why) told = absurd (cc told)
 awaited_fault known read (Some n) (Refused line why) told =
     let same : (let f : LineFault = record { line = n; why = Truncated } in f) ≡ record { line = line; why = why } = cc told in ap (λ (f : LineFault). Err f) same
 awaited_fault known read close NoMemory told = tt
 
-pub awaited_cut : {A : Type 0} (known : A) (read : Line → Reads A) (close : Option ℕ) → next_line tt (λ _ _ _. Ok tt) [] close ≡ Ok tt → next_line known read [] close ≡ Ok known
+pub awaited_cut : {A : Type 0} (known : A) (read : Line → Reads A) (close : Option ℕ) → no_more close ≡ Ok tt → next_line known read [] close ≡ Ok known
 awaited_cut known read None told = refl
 awaited_cut known read (Some n) told = absurd (cc told)
 

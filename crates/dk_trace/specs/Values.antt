@@ -1,5 +1,5 @@
 -- The lines of a record that give its values.
-use Rattle.std.specs.Prelude.{◌≡◌, ◌++◌, false, List, [], ◌∷◌, Option, Some, None, Result, Ok, if◌then◌else◌}
+use Rattle.std.specs.Prelude.{◌≡◌, ◌++◌, ℕ, false, List, [], ◌∷◌, Option, Some, None, Result, Ok, if◌then◌else◌}
 use Rattle.std.specs.Str.{bytes_eq}
 use Rattle.dk_base.specs.Names.{unescaped}
 use Rattle.dk_base.specs.Reading.{Line, LineFault, ◌>>=◌, Reads}
@@ -15,6 +15,11 @@ abbrev pub next_line : {A : Type 0} → A → (Line → Reads A) → Reads A
 next_line known read [] None = Ok known
 next_line known read [] (Some close) = refused Truncated close
 next_line known read (l ∷ ls) close = read l ls close
+
+-- there is no line more, and one is awaited
+abbrev pub no_more : Option ℕ → Result (Unit {0}) LineFault
+no_more None = Ok tt
+no_more (Some close) = refused Truncated close
 
 -- these values, and then the others
 abbrev pub then_values : List Value → Result (List Value) LineFault → Result (List Value) LineFault

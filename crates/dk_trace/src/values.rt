@@ -1,5 +1,5 @@
 // The lines of a record that give its values.
-ghost use Rattle.std.specs.Prelude.{◌≡◌, ◌++◌, [], IfOk, Ok, OnOk, map};
+ghost use Rattle.std.specs.Prelude.{◌≡◌, ◌++◌, [], IfOk, OnOk, map};
 ghost use Rattle.std.specs.Str.{bytes_eq};
 ghost use Rattle.dk_base.specs.Names.{unescaped};
 ghost use Rattle.dk_base.specs.Values.{values_of as shown_by};
@@ -7,7 +7,7 @@ ghost use Rattle.dk_decl.specs.BlockLines.{line_of};
 ghost use Rattle.dk_decl.specs.Outcomes.{AnswerAgrees};
 ghost use Rattle.dk_trace.specs.Answers.{Shows, shown_value};
 ghost use Rattle.dk_trace.specs.Reading.{VariableRead};
-ghost use Rattle.dk_trace.specs.Values.{known_values, next_line, record_values};
+ghost use Rattle.dk_trace.specs.Values.{known_values, no_more, record_values};
 
 use crate::marks::{Unmarked, refuse};
 use bumpalo::collections::into_bump_slice;
@@ -52,7 +52,7 @@ pub(crate) fn push_constant<'a>(
 
 /// A line is awaited, and there is none more. A block that is closed here is truncated.
 pub(crate) fn await_line(close: Option<u64>) -> Result<(), BlockFault>
-    ensures { AnswerAgrees result (next_line tt (λ _ _ _. Ok tt) [] close) }
+    ensures { AnswerAgrees result (no_more close) }
 {
     match close {
         None => Ok(()),

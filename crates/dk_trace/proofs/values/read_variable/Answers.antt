@@ -41,9 +41,11 @@ returns-in_default-behind c =
     let behind = behind_first 1 xs in
     let n : Line = line_of (get_or xs 0 no_line) in
     let named = sym c.is_named.ensures ∙ c.if-not-is_named.false in
-    let all : map line_of xs ≡ n ∷ [] = first_line xs c.in-len1-up.len_at_least ∙ ap (λ (ls : List Line). n ∷ ls) (no_lines behind c.in_default-behind.len_below) in
-    (refl, λ (others : Reads (List Value)). ap (λ (ls : List Line). from_name v others ls c.args.close) all ∙ behind_name v n [] c.args.close others named
-    ∙ awaited_cut [] (λ text. from_mark (marked_value v.kind text) others) c.args.close c.in_ok-await_line-2.ensures)
+    let all : map line_of xs ≡ n ∷ [] = first_line xs c.in-len1-up.len_at_least ∙ ap (λ (ls : List Line). n ∷ ls) (no_lines behind c.in_default-behind.len_below) in (
+      refl,
+      λ (others : Reads (List Value)). ap (λ (ls : List Line). from_name v others ls c.args.close) all ∙ behind_name v n [] c.args.close others named
+          ∙ awaited_cut [] (λ text. from_mark (marked_value v.kind text) others) c.args.close c.in_ok-await_line-2.ensures,
+    )
 
 pub returns-in_err-await_line-3 : goal.returns-in_err-await_line-3
 returns-in_err-await_line-3 c =
@@ -74,9 +76,11 @@ returns-in_default-marks c =
     let t : Line = line_of (get_or behind 0 no_line) in
     let all : map line_of xs ≡ n ∷ t ∷ [] =
     first_line xs c.in-len1-up.len_at_least ∙ ap (λ (ls : List Line). n ∷ ls) (first_line behind c.in-len1-up-behind.len_at_least)
-    ∙ ap (λ (ls : List Line). n ∷ t ∷ ls) (no_lines marks c.in_default-marks.len_below) in
-    (refl, λ (others : Reads (List Value)). ap (λ (ls : List Line). from_name v others ls c.args.close) all ∙ behind_name v n (t ∷ []) c.args.close others named
-    ∙ awaited_cut [] (λ mark ls close. marked_value v.kind t mark >>= λ front. then_values front (others ls close)) c.args.close c.in_ok-await_line-3.ensures)
+    ∙ ap (λ (ls : List Line). n ∷ t ∷ ls) (no_lines marks c.in_default-marks.len_below) in (
+      refl,
+      λ (others : Reads (List Value)). ap (λ (ls : List Line). from_name v others ls c.args.close) all ∙ behind_name v n (t ∷ []) c.args.close others named
+          ∙ awaited_cut [] (λ mark ls close. marked_value v.kind t mark >>= λ front. then_values front (others ls close)) c.args.close c.in_ok-await_line-3.ensures,
+    )
 
 pub returns-in_err-value : goal.returns-in_err-value
 returns-in_err-value c =
@@ -112,8 +116,12 @@ returns c =
     let all : map line_of xs ≡ n ∷ t ∷ m ∷ rest =
     first_line xs c.in-len1-up.len_at_least ∙ ap (λ (ls : List Line). n ∷ ls) (first_line behind c.in-len1-up-behind.len_at_least)
     ∙ ap (λ (ls : List Line). n ∷ t ∷ ls) (first_line marks c.in-len1-up-marks.len_at_least) in
-    let front : List Value = shown_value c.in_ok-value.value in
-    (subst (λ (ls : List Line). 3 ≤ length ls) (sym all) (omega arith), front, c.in_ok-push_shown.ensures, λ (others : Reads (List Value)).
-    ap (λ (ls : List Line). from_name v others ls c.args.close) all ∙ behind_name v n (t ∷ m ∷ rest) c.args.close others named
-    ∙ behind_mark v.kind t m rest c.args.close others front (c.in_ok-unmarked.ensures m ∙ c.in_ok-value.ensures)
-    ∙ ap (λ (ls : List Line). then_values front (others (drop 3 ls) c.args.close)) (sym all))
+    let front : List Value = shown_value c.in_ok-value.value in (
+      subst (λ (ls : List Line). 3 ≤ length ls) (sym all) (omega arith),
+      front,
+      c.in_ok-push_shown.ensures,
+      λ (others : Reads (List Value)).
+          ap (λ (ls : List Line). from_name v others ls c.args.close) all ∙ behind_name v n (t ∷ m ∷ rest) c.args.close others named
+          ∙ behind_mark v.kind t m rest c.args.close others front (c.in_ok-unmarked.ensures m ∙ c.in_ok-value.ensures)
+          ∙ ap (λ (ls : List Line). then_values front (others (drop 3 ls) c.args.close)) (sym all),
+    )
