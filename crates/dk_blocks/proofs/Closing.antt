@@ -12,7 +12,7 @@ use Rattle.dk_trace.proofs.FirstFaults.{first_faults_stay as sample_stays}
 use Rattle.dk_trace.specs.Reading.{FaultOf}
 use Rattle.dk_trace.specs.Records.{Sample, sample_of}
 use Rattle.dk_blocks.specs.Fronts.{Front, block_front}
-use Rattle.dk_blocks.specs.History.{History, Taken, after_front, after_record, block, effect_of, is_declaration, is_list_of_implementors, no_block, where_it_ends, with_declaration, with_record}
+use Rattle.dk_blocks.specs.History.{History, Taken, after_front, after_lines, after_record, block, effect_of, is_declaration, is_list_of_implementors, no_block, where_it_ends, with_declaration, with_record}
 use Rattle.dk_blocks.proofs.Fronting.{declares, lists, samples, told_at}
 
 -- ---- a block behind its front
@@ -27,6 +27,15 @@ pub front_faulty : (ignores : Bool) (h : History) (lines : List Line) (close : O
     → FaultAgrees e (effect_of ignores h lines close)
 unfolding effect_of
 front_faulty ignores h lines close e told = told_at e (block_front h.header None lines) (λ f. after_front ignores h f close) told
+
+-- without a record, where the block is cut off, nothing is wrong
+pub no_record : (ignores : Bool) (h : History) (lines : List Line) (f : Front) → block_front h.header None lines ≡ Ok f → f.lines ≡ [] → IsOk (effect_of ignores h lines None)
+no_record ignores h lines f is none =
+    subst (λ (r : Result Taken LineFault). IsOk r) (sym (front_read ignores h lines f None is ∙ ap (λ (ls : List Line). after_lines ignores (record h { header = f.header }) f.last ls None) none)) (go f.last)
+  where
+    go : (last : Option ℕ) → IsOk (after_lines ignores (record h { header = f.header }) last [] None)
+    go None = refl
+    go (Some n) = refl
 
 -- ---- where all is read, nothing is wrong before the end
 
