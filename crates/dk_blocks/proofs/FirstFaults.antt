@@ -11,6 +11,7 @@ use Rattle.dk_base.specs.declared.why.Why.TheVariants.{BadHeader}
 use Rattle.dk_decl.proofs.FirstFaults.{first_faults_stay as decl_stays, stays_first}
 use Rattle.dk_decl.specs.BlockLines.{only_bytes}
 use Rattle.dk_decl.specs.Blocks.{block_decl}
+use Rattle.dk_decl.specs.Comments.{is_comment}
 use Rattle.dk_decl.specs.Headers.{comparability_word, header_line, is_implicit}
 use Rattle.dk_decl.specs.LineWords.{begins}
 use Rattle.dk_decl.specs.Outcomes.{FaultsStay, refused}
@@ -18,7 +19,7 @@ use Rattle.dk_decl.specs.declared.decls.PointDecl.{PointDecl}
 use Rattle.dk_decl.specs.declared.header.Header.{Header}
 use Rattle.dk_trace.proofs.FirstFaults.{first_faults_stay as sample_stays}
 use Rattle.dk_trace.specs.Records.{Sample, sample_of}
-use Rattle.dk_blocks.specs.Fronts.{Front, at_header_line, block_front, is_comment}
+use Rattle.dk_blocks.specs.Fronts.{Front, at_header_line, block_front}
 use Rattle.dk_blocks.specs.History.{History, Taken, after_declaration, after_front, after_lines, after_record, after_sample, block, effect_of, is_declaration, is_list_of_implementors, no_block, where_it_ends, with_declaration, with_record, without_record}
 use Rattle.dk_blocks.specs.Judging.{IsNone}
 

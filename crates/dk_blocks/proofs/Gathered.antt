@@ -240,6 +240,17 @@ closed_on ignores read old mid new close r r1 r2 xs ys zs a b = record {
       (a.cut (b.front ++ d) rest (split_on ys b.front zs d rest b.split e)) (b.cut d rest e));
 }
 
+-- a line more is gathered
+pub goes_gathering : (ignores : Bool) (read : Reads Taken) (first r r' : Reading) (o mid left : Option (List ℕ)) (old new : List Line)
+    → IfSome o (λ xs. (ys : List ℕ) × (mid ≡ Some ys) × Gathers ignores read [] first xs old r ys) → IfSome mid (λ ys. LineGives ignores read old r ys (Ok None) new r' left)
+    → IfSome o (λ xs. (zs : List ℕ) × (left ≡ Some zs) × Gathers ignores read [] first xs new r' zs)
+goes_gathering ignores read first r r' None mid left old new goes gives = tt
+goes_gathering ignores read first r r' (Some xs) mid left old new (ys, is, a) gives =
+    go (subst (λ (o : Option (List ℕ)). IfSome o (λ ys. LineGives ignores read old r ys (Ok None) new r' left)) is gives)
+  where
+    go : LineGives ignores read old r ys (Ok None) new r' left → (zs : List ℕ) × (left ≡ Some zs) × Gathers ignores read [] first xs new r' zs
+    go (zs, left_is, b) = (zs, left_is, gathers_on ignores read [] old new first r r' xs ys zs a b)
+
 -- ---- the first fault of the lines that are there
 
 -- whatever follows them
