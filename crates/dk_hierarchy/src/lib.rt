@@ -2,10 +2,10 @@
 #![tactic(auto)]
 
 mod composing;
-mod depths;
 mod descent;
 mod engines;
 pub mod laws;
+mod levels;
 mod merged;
 mod way;
 

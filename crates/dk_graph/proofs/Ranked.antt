@@ -1,0 +1,159 @@
+-- Ranks climb along paths, so there is no cycle; and the depths of a graph without one.
+use Rattle.std.proofs.Common.{◌≡◌, ◌∙◌, ℕ, zero, suc, ◌+◌, ◌-◌, ◌<◌, ◌≤◌, ◌==◌, inr, Bool, true, false, cond, nat_lt, nat_le, max, List, [], ◌∷◌, ◌++◌, length, drop, filter, get_or, replicate, slice_get, slice_index, Contains, Some, All, if◌then◌else◌, true≢false, refl, ap, subst, sym, length-append, arith}
+use Rattle.std.proofs.lemmas.List.{at_drop_more}
+use Rattle.std.proofs.lemmas.List.Elements.{All-contains}
+use Rattle.dk_graph.specs.Graphs.{edges, edges_into, depth_of, has_cycle, height, highest, AreDepths, AreRanks, ParentsAreDeeper}
+use Rattle.dk_graph.specs.Kept.{HasRanks}
+use Rattle.dk_graph.specs.Ordering.{ArePlaces}
+use Rattle.dk_graph.specs.Paths.{HasPathBack, IsPath}
+use Rattle.dk_graph.specs.Raising.{IsReached, IsRisen, IsRising, Rises}
+use Rattle.dk_graph.specs.declared.nodes.Edge.{Edge}
+use Rattle.dk_graph.specs.declared.nodes.Node.{Node}
+use Rattle.dk_graph.proofs.LongPaths.{below-true, cycle}
+use Rattle.dk_graph.proofs.Heights.{Climbs, depths-exact, eqb_same, eqb_true, height-suc}
+use Rattle.dk_graph.proofs.Links.{edge-below}
+use Rattle.dk_graph.proofs.Members.{contained-has, has-filter}
+use Rattle.dk_graph.proofs.Places.{slice_get-at}
+use Rattle.dk_graph.proofs.Walks.{cycle-law, longest, path-append, path-of-height}
+
+pub are-ranks : (ns : List Node) (rs : List ℕ) → HasRanks ns rs → AreRanks ns rs
+are-ranks ns rs kept = record { all = kept.all; climb = kept.risen.climbs }
+
+-- ---- no cycle
+
+-- a path climbs as far at least as it has edges
+path-rises : (r : ℕ → ℕ) (es : List Edge) → ((e : Edge) → Contains es e → r e.child.0 < r e.parent.0)
+    → (p : ℕ) (path : List Edge) (q : ℕ) → IsPath es p path q → r p + length path ≤ r q
+path-rises r es up p [] q same = let at : r p ≡ r q = ap r same in omega (arith, at)
+path-rises r es up p (e ∷ path) q h =
+    let rest = path-rises r es up e.parent.0 path q h.2 in
+    let first = up e h.0 in
+    let at : r e.child.0 ≡ r p = ap r h.1 in
+    omega (arith, rest, first, at)
+
+pub no-cycle : (ns : List Node) (rs : List ℕ) → AreRanks ns rs → has_cycle ns ≡ false
+no-cycle ns rs are = by (has_cycle ns) refl
+  where
+    none : HasPathBack (edges ns) → ⊥
+    none (p, path, some, back) = let rises = path-rises (slice_index rs) (edges ns) are.climb p path p back in omega (arith, rises, some)
+
+    by : (b : Bool) → has_cycle ns ≡ b → b ≡ false
+    by true is = absurd (none ((cycle-law ns).back is))
+    by false is = refl
+
+-- ---- depths of a graph without a cycle
+
+pub deeper : (ns : List Node) → has_cycle ns ≡ false → ParentsAreDeeper ns
+deeper ns free e there =
+    let below = edge-below ns e there in
+    let to_child = (longest ns free e.child.0 below.0).reached in
+    let whole : IsPath (edges ns) to_child.0 (to_child.1 ++ e ∷ []) e.parent.0 = path-append (edges ns) to_child.0 to_child.1 e.child.0 (e ∷ []) e.parent.0 to_child.2 (there, refl, refl) in
+    let le = (longest ns free e.parent.0 below.1).longest to_child.0 (to_child.1 ++ e ∷ []) whole in
+    omega (arith, le, to_child.3, length-append to_child.1 (e ∷ []))
+
+-- a point's depth is one more than that of its deepest child
+pub depth-highest : (ns : List Node) → has_cycle ns ≡ false → (q : ℕ) → q < length ns → highest (depth_of ns) q (edges ns) ≡ depth_of ns q
+unfolding depth_of
+depth-highest ns free q below =
+    let path = path-of-height (edges ns) (suc (length ns)) q in
+    let le : length path.1 ≤ height (edges ns) (length ns) q = (longest ns free q below).longest path.0 path.1 path.2 in
+    let more = height-suc (edges ns) (length ns) q in
+    let exact : height (edges ns) (suc (length ns)) q ≡ height (edges ns) (length ns) q = omega (arith, le, more, path.3) in
+    exact
+
+-- the edges into a point are enough for that
+highest-filter : (h : ℕ → ℕ) (q : ℕ) (es : List Edge) → highest h q (filter (λ e. e.parent.0 == q) es) ≡ highest h q es
+highest-filter h q [] = refl
+highest-filter h q (e ∷ es) = by (e.parent.0 == q) refl (highest-filter h q es)
+  where
+    rest : List Edge
+    rest = filter (λ e. e.parent.0 == q) es
+
+    by : (b : Bool) → e.parent.0 == q ≡ b → highest h q rest ≡ highest h q es
+        → highest h q (cond b (e ∷ rest) rest) ≡ (if b then max (h e.child.0 + 1) (highest h q es) else highest h q es)
+    by true is same =
+        ap (λ (b : Bool). if b then max (h e.child.0 + 1) (highest h q rest) else highest h q rest) is
+        ∙ ap (max (h e.child.0 + 1)) same
+    by false is same = same
+
+pub depth-into : (ns : List Node) → has_cycle ns ≡ false → (q : ℕ) → q < length ns → highest (depth_of ns) q (edges_into ns q) ≡ depth_of ns q
+unfolding edges_into
+depth-into ns free q below = highest-filter (depth_of ns) q (edges ns) ∙ depth-highest ns free q below
+
+-- an edge into a point, by its place
+pub into-at : (ns : List Node) (q i : ℕ) (d : Edge) → i < length (edges_into ns q)
+    → Contains (edges ns) (get_or (edges_into ns q) i d) × ((get_or (edges_into ns q) i d).parent.0 ≡ q)
+unfolding edges_into
+into-at ns q i d within =
+    let e : Edge = get_or (edges_into ns q) i d in
+    let found = has-filter (λ f. f.parent.0 == q) (edges ns) e (i, slice_get-at (edges_into ns q) i d within) in
+    (contained-has (edges ns) found.0.0 e found.0.1, eqb_true e.parent.0 q found.1)
+
+-- one edge further down a row of such
+pub highest-step : (h : ℕ → ℕ) (q : ℕ) (row : List Edge) (i : ℕ) (d : Edge) → i < length row → (get_or row i d).parent.0 ≡ q
+    → highest h q (drop i row) ≡ max (h (get_or row i d).child.0 + 1) (highest h q (drop (i + 1) row))
+highest-step h q row i d within same =
+    at_drop_more (highest h q) row i d within
+    ∙ ap (λ (b : Bool). if b then max (h (get_or row i d).child.0 + 1) (highest h q (drop (i + 1) row)) else highest h q (drop (i + 1) row)) (ap (λ p. p == q) same ∙ eqb_same q)
+
+pub nought-max : (n : ℕ) → max 0 n ≡ n
+nought-max n = omega arith
+
+-- no depth comes to the number of points
+pub depth-low : (ns : List Node) → has_cycle ns ≡ false → (q : ℕ) → q < length ns → depth_of ns q < length ns
+unfolding has_cycle
+depth-low ns free q below = by (nat_lt (depth_of ns q) (length ns)) refl
+  where
+    lt-true : (m n : ℕ) → nat_lt m n ≡ true → m < n
+    lt-true m n h = grind (arith, h)
+
+    by : (b : Bool) → nat_lt (depth_of ns q) (length ns) ≡ b → depth_of ns q < length ns
+    by true is = lt-true (depth_of ns q) (length ns) is
+    by false is = absurd (true≢false (sym (below-true (λ r. nat_le (length ns) (depth_of ns r)) (length ns) q below (le-true (depth_of ns q) (length ns) is)) ∙ free))
+      where
+        le-true : (m n : ℕ) → nat_lt m n ≡ false → nat_le n m ≡ true
+        le-true m n h = grind (arith, h)
+
+-- ---- depths that were raised from noughts
+
+nought : (n q : ℕ) → slice_index (replicate n 0) q ≡ 0
+nought zero q = refl
+nought (suc n) zero = refl
+nought (suc n) (suc q) = nought n q
+
+pub length-noughts : (n : ℕ) → length {A = ℕ} (replicate n 0) ≡ n
+length-noughts zero = refl
+length-noughts (suc n) = ap suc (length-noughts n)
+
+pub rising-noughts : (ns : List Node) (queue : List ℕ) → ArePlaces (length ns) queue
+    → IsRising 0 (length ns) (edges ns) (record { ranks = replicate (length ns) 0; queue = queue })
+rising-noughts ns queue places = record {
+  settled = λ e there. inr (places.each e.child.0 (edge-below ns e there).0);
+  reached = λ q. let none = nought (length ns) q in omega (arith, none);
+  low = λ q within. let none = nought (length ns) q in omega (arith, none, within, length-noughts (length ns));
+  waiting = λ q there. let below = All-contains (λ p. p < length ns) queue q places.below there in omega (arith, below, length-noughts (length ns));
+}
+
+climbs-all : (d : ℕ → ℕ) (es : List Edge) → ((k : ℕ) (e : Edge) → slice_get es k ≡ Some e → d e.child.0 < d e.parent.0) → Climbs d es
+climbs-all d [] h = tt
+climbs-all d (e ∷ es) h = (h zero e refl, climbs-all d es (λ k f at. h (suc k) f at))
+
+pub depths-risen : (ns : List Node) (ds : List ℕ) → length ds ≡ length ns → IsRisen 0 (length ns) (edges ns) ds → AreDepths ns ds
+unfolding depth_of
+depths-risen ns ds all risen = record {
+  all = all;
+  each = λ q within. let low = risen.low q (omega (arith, all, within)) in
+      sym (depths-exact (slice_index ds) (edges ns) (climbs-all (slice_index ds) (edges ns) (λ k e at. risen.climbs e (contained-has (edges ns) k e at)))
+      reached (length ns) q (omega (arith, low)));
+}
+  where
+    minus-nought : (n : ℕ) → n - 0 ≡ n
+    minus-nought n = omega arith
+
+    reached : IsReached (edges ns) (slice_index ds)
+    reached q = subst (λ k. k ≤ height (edges ns) k q) (minus-nought (slice_index ds q)) (risen.reached q)
+
+-- without a cycle they rise to the end
+pub depths-raised : (ns : List Node) (ds : List ℕ) → has_cycle ns ≡ false → length ds ≡ length ns → (b : Bool) → Rises b 0 (length ns) (edges ns) ds → AreDepths ns ds
+depths-raised ns ds free all true risen = depths-risen ns ds all risen
+depths-raised ns ds free all false (q, within, long) = absurd (true≢false (sym (cycle ns (q, omega (arith, within, all), long)) ∙ free))
