@@ -172,12 +172,12 @@ module _ (ns : List Node) (n : Node) (none : place_of (node_names ns) n.name ≡
             let e : Edge = some.0 in
             let found = has-into e some.1 in
             let more : slice_index ds e.child.0 + 1 - first_rank ≤ height (edges (ns ++ n ∷ [])) (slice_index ds e.child.0 + 1 - first_rank) e.parent.0 =
-            reached-above (edges (ns ++ n ∷ [])) first_rank e (slice_index ds e.child.0) found.0 (reached-old e.child.0) in
+            reached-above (edges (ns ++ n ∷ [])) e (slice_index ds e.child.0) found.0 (reached-old e.child.0) in
             let here : d - first_rank ≤ height (edges (ns ++ n ∷ [])) (d - first_rank) e.parent.0 =
             subst (λ k. k - first_rank ≤ height (edges (ns ++ n ∷ [])) (k - first_rank) e.parent.0) (sym (same ∙ some.3)) more in
             subst (λ p. d - first_rank ≤ height (edges (ns ++ n ∷ [])) (d - first_rank) p) found.1 here
 
-    reached : IsReached (edges (ns ++ n ∷ [])) (over first_rank new)
+    reached : IsReached (edges (ns ++ n ∷ [])) (over new)
     reached q = elim (split q (length ds)) [
       | inl old ↦ subst (λ k. k - first_rank ≤ height (edges (ns ++ n ∷ [])) (k - first_rank) q) (sym (index-old ds d q old)) (reached-old q)
       | inr rest ↦ elim rest [

@@ -18,5 +18,4 @@ pub mod Joining
 pub mod Climbing
 pub mod Walks
 pub mod Ranked
-pub mod Queues
 mod Examples

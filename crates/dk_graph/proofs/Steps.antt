@@ -113,45 +113,45 @@ le_true m n h = grind (arith, h)
 le_false : (m n : ℕ) → nat_le m n ≡ false → n < m
 le_false m n h = grind (arith, h)
 
--- where a path comes to a child with as many edges as its number is above the base, one comes to the parent with an edge more
-pub reached-above : (es : List Edge) (base : ℕ) (e : Edge) (r : ℕ) → Has es e → r - base ≤ height es (r - base) e.child.0
-    → r + 1 - base ≤ height es (r + 1 - base) e.parent.0
-reached-above es base e r has reached = by (nat_le base r) refl
+-- where a path comes to a child with as many edges as its number is above the first rank, one comes to the parent with an edge more
+pub reached-above : (es : List Edge) (e : Edge) (r : ℕ) → Has es e → r - first_rank ≤ height es (r - first_rank) e.child.0
+    → r + 1 - first_rank ≤ height es (r + 1 - first_rank) e.parent.0
+reached-above es e r has reached = by (nat_le first_rank r) refl
   where
-    by : (b : Bool) → nat_le base r ≡ b → r + 1 - base ≤ height es (r + 1 - base) e.parent.0
+    by : (b : Bool) → nat_le first_rank r ≡ b → r + 1 - first_rank ≤ height es (r + 1 - first_rank) e.parent.0
     by true h =
-        let there : r - base + 1 ≤ height es (suc (r - base)) e.parent.0 = omega (arith, highest-ge (height es (r - base)) es has.0 e has.1, reached) in
-        let le = le_true base r h in
-        let same : suc (r - base) ≡ r + 1 - base = omega (arith, le) in
+        let there : r - first_rank + 1 ≤ height es (suc (r - first_rank)) e.parent.0 = omega (arith, highest-ge (height es (r - first_rank)) es has.0 e has.1, reached) in
+        let le = le_true first_rank r h in
+        let same : suc (r - first_rank) ≡ r + 1 - first_rank = omega (arith, le) in
         subst (λ n. n ≤ height es n e.parent.0) same (omega (arith, there))
-    by false h = let less = le_false base r h in omega (arith, less)
+    by false h = let less = le_false first_rank r h in omega (arith, less)
 
-pub reached-lifted : (es : List Edge) (base : ℕ) (e : Edge) (s : Raising) → Has es e → e.parent.0 < length s.ranks → rank s e.parent.0 ≤ rank s e.child.0
-    → IsReached es (over base s) → IsReached es (over base (lifted e.child.0 s e.parent.0))
-reached-lifted es base e s has below le reached q = by (rank-lifted e.child.0 s e.parent.0 q below le)
+pub reached-lifted : (es : List Edge) (e : Edge) (s : Raising) → Has es e → e.parent.0 < length s.ranks → rank s e.parent.0 ≤ rank s e.child.0
+    → IsReached es (over s) → IsReached es (over (lifted e.child.0 s e.parent.0))
+reached-lifted es e s has below le reached q = by (rank-lifted e.child.0 s e.parent.0 q below le)
   where
     t : Raising
     t = lifted e.child.0 s e.parent.0
 
-    there : rank s e.child.0 + 1 - base ≤ height es (rank s e.child.0 + 1 - base) e.parent.0
-    there = reached-above es base e (rank s e.child.0) has (reached e.child.0)
+    there : rank s e.child.0 + 1 - first_rank ≤ height es (rank s e.child.0 + 1 - first_rank) e.parent.0
+    there = reached-above es e (rank s e.child.0) has (reached e.child.0)
 
-    by : ((q ≡ e.parent.0) × (rank t q ≡ rank s e.child.0 + 1)) ⊎ ((q ≢ e.parent.0) × (rank t q ≡ rank s q)) → rank t q - base ≤ height es (rank t q - base) q
+    by : ((q ≡ e.parent.0) × (rank t q ≡ rank s e.child.0 + 1)) ⊎ ((q ≢ e.parent.0) × (rank t q ≡ rank s q)) → rank t q - first_rank ≤ height es (rank t q - first_rank) q
     by (inl p) = rw (p.1, p.0) there
-    by (inr p) = subst (λ n. n - base ≤ height es (n - base) q) (sym p.1) (reached q)
+    by (inr p) = subst (λ n. n - first_rank ≤ height es (n - first_rank) q) (sym p.1) (reached q)
 
-pub reached-step : (es : List Edge) (base limit : ℕ) (e : Edge) (s t : Raising) → Has es e → e.parent.0 < length s.ranks → Stepped limit e.child.0 s e.parent.0 t
-    → IsReached es (over base s) → IsReached es (over base t)
-reached-step es base limit e s t has below (inl p) reached = subst (λ u. IsReached es (over base u)) (sym p.1) reached
-reached-step es base limit e s t has below (inr p) reached = subst (λ u. IsReached es (over base u)) (sym p.2) (reached-lifted es base e s has below p.0 reached)
+pub reached-step : (es : List Edge) (limit : ℕ) (e : Edge) (s t : Raising) → Has es e → e.parent.0 < length s.ranks → Stepped limit e.child.0 s e.parent.0 t
+    → IsReached es (over s) → IsReached es (over t)
+reached-step es limit e s t has below (inl p) reached = subst (λ u. IsReached es (over u)) (sym p.1) reached
+reached-step es limit e s t has below (inr p) reached = subst (λ u. IsReached es (over u)) (sym p.2) (reached-lifted es e s has below p.0 reached)
 
--- a path of as many edges as the limit is above the base, where a step stopped
-pub reached-stopped : (es : List Edge) (base n : ℕ) (e : Edge) (s : Raising) → Has es e → above (base + n) e.child.0 s e.parent.0 ≡ None
-    → rank s e.child.0 < base + n → IsReached es (over base s) → n ≤ height es n e.parent.0
-reached-stopped es base n e s has stop below reached =
-    let more = stopped (base + n) e.child.0 s e.parent.0 stop in
-    let same : rank s e.child.0 + 1 - base ≡ n = omega (arith, more, below) in
-    subst (λ k. k ≤ height es k e.parent.0) same (reached-above es base e (rank s e.child.0) has (reached e.child.0))
+-- a path of as many edges as the limit is above the first rank, where a step stopped
+pub reached-stopped : (es : List Edge) (n : ℕ) (e : Edge) (s : Raising) → Has es e → above (first_rank + n) e.child.0 s e.parent.0 ≡ None
+    → rank s e.child.0 < first_rank + n → IsReached es (over s) → n ≤ height es n e.parent.0
+reached-stopped es n e s has stop below reached =
+    let more = stopped (first_rank + n) e.child.0 s e.parent.0 stop in
+    let same : rank s e.child.0 + 1 - first_rank ≡ n = omega (arith, more, below) in
+    subst (λ k. k ≤ height es k e.parent.0) same (reached-above es e (rank s e.child.0) has (reached e.child.0))
 
 -- ---- what is left to do
 

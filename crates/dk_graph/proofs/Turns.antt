@@ -41,7 +41,7 @@ waiting-step limit child s parent t below (inr p) h = subst AreBelow (sym p.2) l
 pub record Raised (limit child : ℕ) (es : List Edge) (s t : Raising) : Type 0 where
   pub settled : (q r : ℕ) → IsSettled s q r → IsSettled t q r
   pub own : (k : ℕ) (e : Edge) → slice_get es k ≡ Some e → IsSettled t child e.parent.0
-  pub reached : (base : ℕ) (all : List Edge) → AreOf all child es → IsReached all (over base s) → IsReached all (over base t)
+  pub reached : (all : List Edge) → AreOf all child es → IsReached all (over s) → IsReached all (over t)
   pub to_do : to_do limit t ≤ to_do limit s
   pub length : length t.ranks ≡ length s.ranks
   pub low : IsLow limit s.ranks → IsLow limit t.ranks
@@ -53,9 +53,9 @@ one-more limit child e es s u t below step rest =
     let how = stepped limit child s e.parent.0 u step in record {
       settled = λ q r h. rest.settled q r (settled-step limit child s e.parent.0 u below how q r h);
       own = own-edge (rest.settled child e.parent.0 (settles-step limit child s e.parent.0 u below how));
-      reached = λ base all of h. rest.reached base all (λ k f at. of (suc k) f at) (
+      reached = λ all of h. rest.reached all (λ k f at. of (suc k) f at) (
           let own = of zero e refl in
-          reached-step all base limit e s u own.1 below (subst (λ c. Stepped limit c s e.parent.0 u) (sym own.0) how) h);
+          reached-step all limit e s u own.1 below (subst (λ c. Stepped limit c s e.parent.0 u) (sym own.0) how) h);
       to_do = omega (arith, rest.to_do, to_do-step limit child s e.parent.0 u below how);
       length = rest.length ∙ length-step limit child s e.parent.0 u how;
       low = λ h. rest.low (low-step limit child s e.parent.0 u below how h);
@@ -70,7 +70,7 @@ pub raised-Some : (limit child : ℕ) (es : List Edge) (s t : Raising) → Paren
 raised-Some limit child [] s t below h = subst (Raised limit child [] s) (some-injective h) (record {
   settled = λ q r k. k;
   own = λ k e at. absurd (cc);
-  reached = λ base all of k. k;
+  reached = λ all of k. k;
   to_do = omega arith;
   length = refl;
   low = λ k. k;
@@ -84,32 +84,32 @@ raised-Some limit child (e ∷ es) s t below h = by (above limit child s e.paren
     by (Some u) p h rest = one-more limit child e es s u t (below zero e refl) p
         (rest u (λ k f at. subst (λ n. f.parent.0 < n) (sym (length-step limit child s e.parent.0 u (stepped limit child s e.parent.0 u p))) (below (suc k) f at)) h)
 
-pub raised-None : (base n child : ℕ) (es : List Edge) (s : Raising) (all : List Edge) → AreOf all child es → ParentsBelow (length s.ranks) es → child < length s.ranks
-    → IsLow (base + n) s.ranks → IsReached all (over base s) → raised (base + n) child es s ≡ None → (q : ℕ) × (q < length s.ranks) × (n ≤ height all n q)
-raised-None base n child [] s all of below within low reached h = absurd (cc)
-raised-None base n child (e ∷ es) s all of below within low reached h =
-    by (above (base + n) child s e.parent.0) refl h (λ u. raised-None base n child es u all (λ k f at. of (suc k) f at))
+pub raised-None : (n child : ℕ) (es : List Edge) (s : Raising) (all : List Edge) → AreOf all child es → ParentsBelow (length s.ranks) es → child < length s.ranks
+    → IsLow (first_rank + n) s.ranks → IsReached all (over s) → raised (first_rank + n) child es s ≡ None → (q : ℕ) × (q < length s.ranks) × (n ≤ height all n q)
+raised-None n child [] s all of below within low reached h = absurd (cc)
+raised-None n child (e ∷ es) s all of below within low reached h =
+    by (above (first_rank + n) child s e.parent.0) refl h (λ u. raised-None n child es u all (λ k f at. of (suc k) f at))
   where
     own : (e.child.0 ≡ child) × Has all e
     own = of zero e refl
 
-    by : (r : Option Raising) → above (base + n) child s e.parent.0 ≡ r → option_and_then (raised (base + n) child es) r ≡ None
-        → ((u : Raising) → ParentsBelow (length u.ranks) es → child < length u.ranks → IsLow (base + n) u.ranks → IsReached all (over base u) → raised (base + n) child es u ≡ None
+    by : (r : Option Raising) → above (first_rank + n) child s e.parent.0 ≡ r → option_and_then (raised (first_rank + n) child es) r ≡ None
+        → ((u : Raising) → ParentsBelow (length u.ranks) es → child < length u.ranks → IsLow (first_rank + n) u.ranks → IsReached all (over u) → raised (first_rank + n) child es u ≡ None
         → (q : ℕ) × (q < length u.ranks) × (n ≤ height all n q))
         → (q : ℕ) × (q < length s.ranks) × (n ≤ height all n q)
     by None p h rest = (
       e.parent.0,
       below zero e refl,
-      reached-stopped all base n e s own.1 (subst (λ c. above (base + n) c s e.parent.0 ≡ None) (sym own.0) p)
-          (subst (λ c. rank s c < base + n) (sym own.0) (low child within)) reached,
+      reached-stopped all n e s own.1 (subst (λ c. above (first_rank + n) c s e.parent.0 ≡ None) (sym own.0) p)
+          (subst (λ c. rank s c < first_rank + n) (sym own.0) (low child within)) reached,
     )
     by (Some u) p h rest =
-        let how : Stepped (base + n) child s e.parent.0 u = stepped (base + n) child s e.parent.0 u p in
-        let same : length u.ranks ≡ length s.ranks = length-step (base + n) child s e.parent.0 u how in
+        let how : Stepped (first_rank + n) child s e.parent.0 u = stepped (first_rank + n) child s e.parent.0 u p in
+        let same : length u.ranks ≡ length s.ranks = length-step (first_rank + n) child s e.parent.0 u how in
         let here = below zero e refl in
         let found = rest u (λ k f at. subst (λ n. f.parent.0 < n) (sym same) (below (suc k) f at)) (subst (λ n. child < n) (sym same) within)
-        (low-step (base + n) child s e.parent.0 u here how low)
-        (reached-step all base (base + n) e s u own.1 here (subst (λ c. Stepped (base + n) c s e.parent.0 u) (sym own.0) how) reached) h in
+        (low-step (first_rank + n) child s e.parent.0 u here how low)
+        (reached-step all (first_rank + n) e s u own.1 here (subst (λ c. Stepped (first_rank + n) c s e.parent.0 u) (sym own.0) how) reached) h in
         (found.0, subst (λ n. found.0 < n) same found.1, found.2)
 
 -- ---- all points
@@ -127,22 +127,22 @@ edges_of es q = filter (λ e. e.child.0 == q) es
 are_of : (es : List Edge) (q : ℕ) → AreOf es q (edges_of es q)
 are_of es q k e at = let found = has-filter (λ e. e.child.0 == q) es e (k, at) in (eqb_true e.child.0 q found.1, found.0)
 
-module _ (base n : ℕ) (es : List Edge) (ds : List ℕ) (below : ParentsBelow (length ds) es) where
+module _ (n : ℕ) (es : List Edge) (ds : List ℕ) (below : ParentsBelow (length ds) es) where
   pub parents-below : (q : ℕ) → ParentsBelow (length ds) (edges_of es q)
   parents-below q k e at = let found = has-filter (λ e. e.child.0 == q) es e (k, at) in below found.0.0 e found.0.1
 
   -- the first that waits has its parents raised
-  pub rising-next : (q : ℕ) (queue : List ℕ) (t : Raising) → IsRising base n es (record { ranks = ds; queue = q ∷ queue })
-      → raised (base + n) q (edges_of es q) (record { ranks = ds; queue = queue }) ≡ Some t → IsRising base n es t
+  pub rising-next : (q : ℕ) (queue : List ℕ) (t : Raising) → IsRising n es (record { ranks = ds; queue = q ∷ queue })
+      → raised (first_rank + n) q (edges_of es q) (record { ranks = ds; queue = queue }) ≡ Some t → IsRising n es t
   rising-next q queue t r h =
-      let all = raised-Some (base + n) q (edges_of es q) (record { ranks = ds; queue = queue }) t (parents-below q) h in record {
+      let all = raised-Some (first_rank + n) q (edges_of es q) (record { ranks = ds; queue = queue }) t (parents-below q) h in record {
         settled = λ e there. settle e there all (r.settled e there);
-        reached = all.reached base es (are_of es q) r.reached;
+        reached = all.reached es (are_of es q) r.reached;
         low = all.low r.low;
         waiting = all.waiting (λ p there. r.waiting p (Contains-append_right (q ∷ []) queue p there));
       }
     where
-      settle : (e : Edge) → Contains es e → Raised (base + n) q (edges_of es q) (record { ranks = ds; queue = queue }) t
+      settle : (e : Edge) → Contains es e → Raised (first_rank + n) q (edges_of es q) (record { ranks = ds; queue = queue }) t
           → IsSettled (record { ranks = ds; queue = q ∷ queue }) e.child.0 e.parent.0 → IsSettled t e.child.0 e.parent.0
       settle e there all (inl climbs) = all.settled e.child.0 e.parent.0 (inl climbs)
       settle e there all (inr waits) = by (Contains-append_cases (q ∷ []) queue e.child.0 waits)
@@ -154,7 +154,7 @@ module _ (base n : ℕ) (es : List Edge) (ds : List ℕ) (below : ParentsBelow (
               subst (λ c. IsSettled t c e.parent.0) (sym same) (all.own own.0 e own.1)
           by (inr o) = all.settled e.child.0 e.parent.0 (inr o)
 
-  pub risen-end : IsRising base n es (record { ranks = ds; queue = [] }) → IsRisen base n es ds
+  pub risen-end : IsRising n es (record { ranks = ds; queue = [] }) → IsRisen n es ds
   risen-end r = record {
     climbs = λ e there. by e (r.settled e there);
     reached = r.reached;
@@ -165,22 +165,22 @@ module _ (base n : ℕ) (es : List Edge) (ds : List ℕ) (below : ParentsBelow (
       by e (inl p) = p
       by e (inr p) = absurd (Contains-nil e.child.0 p)
 
-  pub long-path : (q : ℕ) (queue : List ℕ) → q < length ds → IsRising base n es (record { ranks = ds; queue = q ∷ queue })
-      → raised (base + n) q (edges_of es q) (record { ranks = ds; queue = queue }) ≡ None → HasLongPath n (length ds) es
-  long-path q queue within r h = raised-None base n q (edges_of es q) (record { ranks = ds; queue = queue }) es (are_of es q) (parents-below q) within r.low r.reached h
+  pub long-path : (q : ℕ) (queue : List ℕ) → q < length ds → IsRising n es (record { ranks = ds; queue = q ∷ queue })
+      → raised (first_rank + n) q (edges_of es q) (record { ranks = ds; queue = queue }) ≡ None → HasLongPath n (length ds) es
+  long-path q queue within r h = raised-None n q (edges_of es q) (record { ranks = ds; queue = queue }) es (are_of es q) (parents-below q) within r.low r.reached h
 
 -- ---- a turn of the loop, as the code meets it
 
-module _ (base : ℕ) (ns : List Node) (ds items : List ℕ) (q : ℕ) (queue : List ℕ) (same : length ds ≡ length ns)
-    (is : items ≡ q ∷ queue) (rising : IsRising base (length ns) (edges ns) (record { ranks = ds; queue = items })) where
+module _ (ns : List Node) (ds items : List ℕ) (q : ℕ) (queue : List ℕ) (same : length ds ≡ length ns)
+    (is : items ≡ q ∷ queue) (rising : IsRising (length ns) (edges ns) (record { ranks = ds; queue = items })) where
   pub first-below : q < length ds
   first-below = rising.waiting q (subst (λ xs. Contains xs q) (sym is) (Contains-first q queue))
 
   parents : ParentsBelow (length ds) (edges ns)
   parents k e at = subst (λ n. e.parent.0 < n) (sym same) (edge-has ns e (k, at)).1
 
-  rising-first : IsRising base (length ns) (edges ns) (record { ranks = ds; queue = q ∷ queue })
-  rising-first = subst (λ xs. IsRising base (length ns) (edges ns) (record { ranks = ds; queue = xs })) is rising
+  rising-first : IsRising (length ns) (edges ns) (record { ranks = ds; queue = q ∷ queue })
+  rising-first = subst (λ xs. IsRising (length ns) (edges ns) (record { ranks = ds; queue = xs })) is rising
 
   module _ (row : List Edge) (at : row ≡ edges_from ns q) where
     row-is : row ≡ edges_of (edges ns) q
@@ -188,16 +188,16 @@ module _ (base : ℕ) (ns : List Node) (ds items : List ℕ) (q : ℕ) (queue : 
     row-is = at
 
     pub row-below : ParentsBelow (length ds) row
-    row-below = subst (ParentsBelow (length ds)) (sym row-is) (parents-below base (length ns) (edges ns) ds parents q)
+    row-below = subst (ParentsBelow (length ds)) (sym row-is) (parents-below (length ns) (edges ns) ds parents q)
 
-    pub turn : (t : Raising) → raised (base + length ns) q row (record { ranks = ds; queue = queue }) ≡ Some t → IsRising base (length ns) (edges ns) t
-    turn t h = rising-next base (length ns) (edges ns) ds parents q queue t rising-first
-        (subst (λ es. raised (base + length ns) q es (record { ranks = ds; queue = queue }) ≡ Some t) row-is h)
+    pub turn : (t : Raising) → raised (first_rank + length ns) q row (record { ranks = ds; queue = queue }) ≡ Some t → IsRising (length ns) (edges ns) t
+    turn t h = rising-next (length ns) (edges ns) ds parents q queue t rising-first
+        (subst (λ es. raised (first_rank + length ns) q es (record { ranks = ds; queue = queue }) ≡ Some t) row-is h)
 
-    pub turn-less : (t : Raising) → raised (base + length ns) q row (record { ranks = ds; queue = queue }) ≡ Some t
-        → to_do (base + length ns) t < to_do (base + length ns) (record { ranks = ds; queue = items })
-    turn-less t h = omega (arith, (raised-Some (base + length ns) q row (record { ranks = ds; queue = queue }) t row-below h).to_do, ap length is)
+    pub turn-less : (t : Raising) → raised (first_rank + length ns) q row (record { ranks = ds; queue = queue }) ≡ Some t
+        → to_do (first_rank + length ns) t < to_do (first_rank + length ns) (record { ranks = ds; queue = items })
+    turn-less t h = omega (arith, (raised-Some (first_rank + length ns) q row (record { ranks = ds; queue = queue }) t row-below h).to_do, ap length is)
 
-    pub turn-long : raised (base + length ns) q row (record { ranks = ds; queue = queue }) ≡ None → HasLongPath (length ns) (length ds) (edges ns)
-    turn-long h = long-path base (length ns) (edges ns) ds parents q queue first-below rising-first
-        (subst (λ es. raised (base + length ns) q es (record { ranks = ds; queue = queue }) ≡ None) row-is h)
+    pub turn-long : raised (first_rank + length ns) q row (record { ranks = ds; queue = queue }) ≡ None → HasLongPath (length ns) (length ds) (edges ns)
+    turn-long h = long-path (length ns) (edges ns) ds parents q queue first-below rising-first
+        (subst (λ es. raised (first_rank + length ns) q es (record { ranks = ds; queue = queue }) ≡ None) row-is h)

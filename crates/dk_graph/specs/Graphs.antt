@@ -84,8 +84,3 @@ ParentsAreDeeper ns = (e : Edge) → Contains (edges ns) e → depth_of ns e.chi
 pub record AreRanks (ns : List Node) (ranks : List ℕ) : Type 0 where
   pub all : length ranks ≡ length ns
   pub climb : (e : Edge) → Contains (edges ns) e → slice_index ranks e.child.0 < slice_index ranks e.parent.0
-
--- the depth of each point
-pub record AreDepths (ns : List Node) (depths : List ℕ) : Type 0 where
-  pub all : length depths ≡ length ns
-  pub each : (q : ℕ) → q < length ns → slice_index depths q ≡ depth_of ns q

@@ -3,7 +3,7 @@ use Rattle.std.specs.Prelude.{◌≡◌, ℕ, ◌≤◌, List, [], ◌∷◌, le
 use Rattle.dk_graph.specs.Names.{place_of}
 use Rattle.dk_graph.specs.Notes.{noted, noted_under}
 use Rattle.dk_graph.specs.Graphs.{Link, node_names, links, edges, edges_from, edges_into}
-use Rattle.dk_graph.specs.Raising.{first_rank, IsRisen, IsRising}
+use Rattle.dk_graph.specs.Raising.{IsRisen, IsRising}
 use Rattle.dk_graph.specs.Rows.{row}
 use Rattle.dk_graph.specs.declared.nodes.Edge.{Edge}
 use Rattle.dk_graph.specs.declared.nodes.Node.{Node}
@@ -34,9 +34,9 @@ pub record IsJoined (ns : List Node) (all : List (List ℕ))
 
 pub record HasRanks (ns : List Node) (ranks : List ℕ) : Type 0 where
   pub all : length ranks ≡ length ns
-  pub risen : IsRisen first_rank (length ns) (edges ns) ranks
+  pub risen : IsRisen (length ns) (edges ns) ranks
 
 -- ranks before their parents are raised
 pub record HasRisingRanks (ns : List Node) (ranks queue : List ℕ) : Type 0 where
   pub all : length ranks ≡ length ns
-  pub rising : IsRising first_rank (length ns) (edges ns) (record { ranks = ranks; queue = queue })
+  pub rising : IsRising (length ns) (edges ns) (record { ranks = ranks; queue = queue })

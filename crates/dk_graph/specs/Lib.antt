@@ -9,4 +9,3 @@ pub mod Rows
 pub mod Raising
 -- inner: cited by the clauses of bodies and in proofs alone
 pub mod Joined
-pub mod Ordering

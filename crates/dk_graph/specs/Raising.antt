@@ -32,9 +32,13 @@ ParentsBelow n es = (k : ℕ) (e : Edge) → slice_get es k ≡ Some e → e.par
 abbrev pub rank : Raising → ℕ → ℕ
 rank s q = slice_index s.ranks q
 
--- how far the rank is above the base
-abbrev pub over : ℕ → Raising → ℕ → ℕ
-over base s q = rank s q - base
+-- The first point's rank. Each that comes later begins one lower, and so below all that came before.
+abbrev pub first_rank : ℕ
+first_rank = 65535
+
+-- how far a rank is above that
+abbrev pub over : Raising → ℕ → ℕ
+over s q = rank s q - first_rank
 
 -- the parent's rank is greater, or the child waits
 abbrev pub IsSettled : Raising → ℕ → ℕ → Type 0
@@ -47,27 +51,23 @@ IsReached es d = (q : ℕ) → d q ≤ height es (d q) q
 abbrev pub IsLow : ℕ → List ℕ → Type 0
 IsLow limit ds = (q : ℕ) → q < length ds → slice_index ds q < limit
 
--- Ranks that are to rise: that of a point that waits may be no less than a parent's. Above the base each is reached by a path.
-pub record IsRising (base n : ℕ) (es : List Edge) (s : Raising) : Type 0 where
+-- Ranks that are to rise: that of a point that waits may be no less than a parent's. None is more above the first one than a path has edges.
+pub record IsRising (n : ℕ) (es : List Edge) (s : Raising) : Type 0 where
   pub settled : (e : Edge) → Contains es e → IsSettled s e.child.0 e.parent.0
-  pub reached : IsReached es (over base s)
-  pub low : IsLow (base + n) s.ranks
+  pub reached : IsReached es (over s)
+  pub low : IsLow (first_rank + n) s.ranks
   pub waiting : (q : ℕ) → Contains s.queue q → q < length s.ranks
 
--- Each parent's rank is greater than its child's, and none is n or more above the base. Above the base each is reached by a path.
-pub record IsRisen (base n : ℕ) (es : List Edge) (rs : List ℕ) : Type 0 where
+-- Each parent's rank is greater than its child's, and none is n or more above the first one, or more than a path has edges.
+pub record IsRisen (n : ℕ) (es : List Edge) (rs : List ℕ) : Type 0 where
   pub climbs : (e : Edge) → Contains es e → slice_index rs e.child.0 < slice_index rs e.parent.0
-  pub reached : IsReached es (λ q. slice_index rs q - base)
-  pub low : IsLow (base + n) rs
+  pub reached : IsReached es (λ q. slice_index rs q - first_rank)
+  pub low : IsLow (first_rank + n) rs
 
 -- a path of n edges to one of these points
 abbrev pub HasLongPath : ℕ → ℕ → List Edge → Type 0
 HasLongPath n points es = (q : ℕ) × (q < points) × (n ≤ height es n q)
 
-abbrev pub Rises : Bool → ℕ → ℕ → List Edge → List ℕ → Type 0
-Rises true base n es rs = IsRisen base n es rs
-Rises false base n es rs = HasLongPath n (length rs) es
-
--- The first point's rank. Each that comes later begins one lower, and so below all that came before.
-abbrev pub first_rank : ℕ
-first_rank = 65535
+abbrev pub Rises : Bool → ℕ → List Edge → List ℕ → Type 0
+Rises true n es rs = IsRisen n es rs
+Rises false n es rs = HasLongPath n (length rs) es

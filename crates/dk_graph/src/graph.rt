@@ -1,9 +1,9 @@
 // Points with their edges and ranks, without cycles.
 ghost use Rattle.std.specs.Prelude.{◌≡◌, ◌∷◌, ◌++◌, [], ◌<◌, ◌≤◌, length, None, Some, IfOk, IfSome, slice_get, option_map, false, bytes_eq};
 ghost use Rattle.dk_graph.specs.Names.{place_of};
-ghost use Rattle.dk_graph.specs.Graphs.{node_names, edges_from, edges_into, depth_of, has_cycle, place_in, AreDepths, AreRanks, GraphGrows, ParentsAreDeeper};
+ghost use Rattle.dk_graph.specs.Graphs.{node_names, edges_from, edges_into, depth_of, has_cycle, place_in, AreRanks, GraphGrows, ParentsAreDeeper};
 
-use crate::depths::{all_depths, depth_by_paths};
+use crate::depths::depth_by_paths;
 use crate::edges::Edges;
 use crate::growing::Growing;
 use crate::nodes::{Edge, Node};
@@ -97,24 +97,14 @@ impl Graph {
         self.ranks.as_slice()
     }
 
-    /// The depth of each point, in order: the number of edges on the longest path that ends in it.
-    pub fn depths(&self) -> Result<Vec<u32>, NoMemory>
-        ensures { IfOk result (λ depths. AreDepths self.now depths.items) }
-    {
-        all_depths(&self.edges, self.ranks.as_slice())
-    }
-
-    /// The number of edges on the longest path that ends in a point. So a child's depth is less than its parent's. It goes over all
-    /// points, so whoever wants many depths asks for `depths`; and over all paths where there is no memory for that.
+    /// The number of edges on the longest path that ends in a point. So a child's depth is less than its parent's. It goes down all paths
+    /// that end there; `ranks` are at hand.
     pub fn depth(&self, p: PointId) -> u32
         requires { p.0 < length self.now }
         ensures depth { result ≡ depth_of self.now p.0 }
         ensures parents { ParentsAreDeeper self.now }
     {
-        match self.depths() {
-            Ok(depths) => depths[p.0 as usize],
-            Err(NoMemory) => depth_by_paths(&self.edges, self.ranks.as_slice(), p),
-        }
+        depth_by_paths(&self.edges, self.ranks.as_slice(), p)
     }
 
     /// One point more, which goes last. None where the edges would have a cycle, also one of the point to itself.

@@ -78,7 +78,7 @@ impl Growing {
             mut ranks,
             queue,
         } = self;
-        if raise_all(FIRST_RANK, &edges, ranks.as_mut_slice(), queue)? {
+        if raise_all(&edges, ranks.as_mut_slice(), queue)? {
             Ok(Some(Graph { edges, ranks }))
         } else {
             Ok(None)

@@ -54,20 +54,18 @@ fn raise_parents(
     Ok(true)
 }
 
-// Raises the parents of those that wait, and theirs, until each one's number is greater than its children's. False where a path has as
-// many edges as there are points. No number is more above the base than a path has edges.
+// Raises the parents of those that wait, and theirs, until each one's rank is greater than its children's. False where a path has as
+// many edges as there are points. No rank is more above the first one than a path has edges.
 pub fn raise_all(
-    base: u32,
     nodes: &Edges,
     ranks: &mut [u32],
     mut queue: VecDeque<u32>,
 ) -> Result<bool, NoMemory>
-    requires base { base ≤ first_rank }
     requires all { length ranks.old ≡ length nodes.now }
-    requires rising { IsRising base (length nodes.now) (edges nodes.now) (record { ranks = ranks.old; queue = queue.items }) }
-    ensures { IfOk result (λ b. Rises b base (length nodes.now) (edges nodes.now) ranks.new) }
+    requires rising { IsRising (length nodes.now) (edges nodes.now) (record { ranks = ranks.old; queue = queue.items }) }
+    ensures { IfOk result (λ b. Rises b (length nodes.now) (edges nodes.now) ranks.new) }
 {
-    let limit = base + nodes.len();
+    let limit = FIRST_RANK + nodes.len();
     while let Some(child) = queue.pop_front() {
         let row = nodes.edges_from(PointId(child));
         if !raise_parents(limit, child as usize, row, ranks, &mut queue)? {

@@ -71,7 +71,7 @@ impl Levels {
         ensures ways { result ≡ ways_at self.old rank }
         ensures others { self.new ≡ remove_entry (is_at (nat_cmp rank)) self.old }
     {
-        match self.kept.remove(rank) {
+        match self.kept.remove(&rank) {
             Some(level) => level,
             None => List::new(self.alloc),
         }

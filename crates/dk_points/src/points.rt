@@ -2,7 +2,7 @@
 ghost use Rattle.std.specs.Prelude.{◌≡◌, ◌<◌, ◌≤◌, All, [], false, true, length, map, IfOk, IfSome, Some, slice_get, take};
 ghost use Rattle.std.specs.Option.{option_map, option_map_or};
 ghost use Rattle.dk_base.specs.Shapes.{shape_of, with_derived};
-ghost use Rattle.dk_graph.specs.Graphs.{AreDepths, AreRanks, ParentsAreDeeper, depth_of, edges_from, edges_into, has_cycle, place_in};
+ghost use Rattle.dk_graph.specs.Graphs.{AreRanks, ParentsAreDeeper, depth_of, edges_from, edges_into, has_cycle, place_in};
 ghost use Rattle.dk_graph.specs.Names.{place_of};
 ghost use Rattle.dk_points.specs.Ends.{AreFrom, AreInto};
 ghost use Rattle.dk_points.specs.Kept.{IsPlaceBehind, point_of_place};
@@ -187,15 +187,8 @@ impl Points {
         self.graph.ranks()
     }
 
-    /// The depth of each point, in order: the number of edges on the longest path of edges that ends in it.
-    pub fn depths(&self) -> Result<Vec<u32>, NoMemory>
-        ensures { IfOk result (λ depths. AreDepths (nodes self.now) depths.items) }
-    {
-        self.graph.depths()
-    }
-
-    /// The number of edges on the longest path of edges that ends in the point. A child's depth is less than its parent's. It goes over
-    /// all points, so whoever wants many depths asks for `depths`; and over all paths where there is no memory for that.
+    /// The number of edges on the longest path of edges that ends in the point. A child's depth is less than its parent's. It goes down
+    /// all paths that end there; `ranks` are at hand.
     pub fn depth(&self, p: PointId) -> u32
         requires { p.0 < length self.now }
         ensures depth { result ≡ depth_of (nodes self.now) p.0 }

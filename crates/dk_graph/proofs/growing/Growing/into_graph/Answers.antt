@@ -1,7 +1,7 @@
 use Rattle.std.proofs.Common.{◌≡◌, ◌∙◌, ◌++◌, List, ℕ, Bool, true, false, length, take, drop, ap, subst, sym}
 use Rattle.dk_graph.specs.Graphs.{edges, has_cycle}
 use Rattle.dk_graph.specs.Kept.{HasRanks}
-use Rattle.dk_graph.specs.Raising.{Rises, HasLongPath, first_rank}
+use Rattle.dk_graph.specs.Raising.{Rises, HasLongPath}
 use Rattle.dk_graph.specs.declared.nodes.Node.{Node}
 use Rattle.dk_graph.proofs.LongPaths.{cycle}
 use Rattle.dk_graph.proofs.Places.{whole}
@@ -10,12 +10,12 @@ use Rattle.dk_graph.proofs.growing.Growing.into_graph.Goals as goal
 
 -- the points with their ranks, as the code meets them
 module _ (ns : List Node) (old : List ℕ) (kept : length old ≡ length ns) (slice : List ℕ) (slice-is : slice ≡ old)
-    (ds : List ℕ) (same : length ds ≡ length slice) (b : Bool) (rises : Rises b first_rank (length ns) (edges ns) ds) where
+    (ds : List ℕ) (same : length ds ≡ length slice) (b : Bool) (rises : Rises b (length ns) (edges ns) ds) where
   all : length ds ≡ length ns
   all = same ∙ ap length slice-is ∙ kept
 
   ranks : b ≡ true → HasRanks ns ds
-  ranks is = record { all = all; risen = subst (λ x. Rises x first_rank (length ns) (edges ns) ds) is rises }
+  ranks is = record { all = all; risen = subst (λ x. Rises x (length ns) (edges ns) ds) is rises }
 
   ranks-whole : b ≡ true → (n : ℕ) → length slice ≡ n → HasRanks ns (take n (ds ++ drop (length ds) old))
   ranks-whole is n long = subst (HasRanks ns) (sym (whole n ds old (same ∙ long) (same ∙ ap length slice-is))) (ranks is)
@@ -26,7 +26,7 @@ module _ (ns : List Node) (old : List ℕ) (kept : length old ≡ length ns) (sl
   cyclic : (self : List Node) → ns ≡ self → b ≡ false → has_cycle self ≡ true
   cyclic self view is =
       subst (λ xs. has_cycle xs ≡ true) view
-      (cycle ns (subst (λ k. HasLongPath (length ns) k (edges ns)) all (subst (λ x. Rises x first_rank (length ns) (edges ns) ds) is rises)))
+      (cycle ns (subst (λ k. HasLongPath (length ns) k (edges ns)) all (subst (λ x. Rises x (length ns) (edges ns) ds) is rises)))
 
 pub invariant_of-result : goal.invariant_of-result
 invariant_of-result c =
