@@ -4,6 +4,7 @@
 mod composing;
 mod descent;
 mod engines;
+mod having;
 pub mod laws;
 mod levels;
 mod merged;
@@ -11,5 +12,6 @@ mod way;
 
 pub use composing::partners_of;
 pub use engines::engine_of;
+pub use having::have_samples;
 pub use merged::{Merged, merge};
 pub use way::{Way, partners_at};
