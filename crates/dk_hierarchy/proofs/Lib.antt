@@ -17,6 +17,7 @@ pub mod Joining
 pub mod Adding
 pub mod Stepping
 pub mod OfPoint
+pub mod Marks
 pub mod Following
 pub mod Answering
 pub mod TableEngines

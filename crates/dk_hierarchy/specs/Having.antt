@@ -1,6 +1,6 @@
 -- Which points have samples.
-use Rattle.std.specs.Prelude.{ℕ, Bool, true, not, nat_lt, List, [], ◌∷◌, ◌++◌, fold, if◌then◌else◌, map, slice_index_or, slice_set}
-use Rattle.std.specs.List.{enumerate_from}
+use Rattle.std.specs.Prelude.{ℕ, Bool, true, false, not, nat_lt, List, [], ◌∷◌, ◌++◌, fold, if◌then◌else◌, length, map, slice_index_or, slice_set}
+use Rattle.std.specs.List.{range_with_len}
 use Rattle.dk_base.specs.Pieces.{is_empty}
 use Rattle.dk_engine.specs.Levels.{Whole}
 use Rattle.dk_graph.specs.declared.nodes.Edge.{Edge}
@@ -13,7 +13,7 @@ has_samples ps own p = not (is_empty (samples_of ps own p))
 
 -- which points of a table have some, in order
 abbrev pub have_samples : List Point → OwnSamples → List Bool
-have_samples ps own = map (λ e. has_samples ps own e.0) (enumerate_from 0 ps)
+have_samples ps own = map (has_samples ps own) (range_with_len 0 (length ps))
 
 -- ---- marks
 -- an engine was fed
@@ -28,7 +28,7 @@ pub record Marking : Type 0 where
 -- with a point marked, which waits unless it was marked before
 abbrev pub marked : Marking → ℕ → Marking
 marked s p =
-    if slice_index_or s.marks p true then s
+    if slice_index_or s.marks p false then s
     else record { marks = slice_set s.marks p true; waiting = s.waiting ++ p ∷ [] }
 
 -- with the parents of these edges marked

@@ -5,7 +5,7 @@ use Rattle.dk_core.specs.Standing.{SessionStandsFor}
 use Rattle.dk_points.specs.Table.{Point}
 use Rattle.dk_run.specs.Commands.{is_selected, report_options}
 use Rattle.dk_run.proofs.Writing.{cut_short, cut_then, told_then, texts_all, texts_behind, texts_more, texts_to, told_nothing, told_same}
-use Rattle.dk_run.proofs.reporting.tell_sections.Goals as goal
+use Rattle.dk_run.proofs.reporting.tell_marked.Goals as goal
 
 pub loop-p-init : goal.loop-p-init
 loop-p-init g c = told_nothing (SessionStandsFor c.args.session.now) _ _ _ (λ h stands. refl)
