@@ -1,16 +1,13 @@
 -- Ranks climb along paths, so there is no cycle; and the depths of a graph without one.
-use Rattle.std.proofs.Common.{◌≡◌, ◌∙◌, ℕ, zero, suc, ◌+◌, ◌-◌, ◌<◌, ◌≤◌, ◌==◌, inr, Bool, true, false, cond, nat_lt, nat_le, max, List, [], ◌∷◌, ◌++◌, length, drop, filter, get_or, replicate, slice_get, slice_index, Contains, Some, All, if◌then◌else◌, true≢false, refl, ap, subst, sym, length-append, arith}
+use Rattle.std.proofs.Common.{◌≡◌, ◌∙◌, ℕ, suc, ◌+◌, ◌-◌, ◌<◌, ◌≤◌, ◌==◌, Bool, true, false, cond, nat_lt, nat_le, max, List, [], ◌∷◌, ◌++◌, length, drop, filter, get_or, slice_index, Contains, if◌then◌else◌, true≢false, refl, ap, subst, sym, length-append, arith}
 use Rattle.std.proofs.lemmas.List.{at_drop_more}
-use Rattle.std.proofs.lemmas.List.Elements.{All-contains}
-use Rattle.dk_graph.specs.Graphs.{edges, edges_into, depth_of, has_cycle, height, highest, AreDepths, AreRanks, ParentsAreDeeper}
+use Rattle.dk_graph.specs.Graphs.{edges, edges_into, depth_of, has_cycle, height, highest, AreRanks, ParentsAreDeeper}
 use Rattle.dk_graph.specs.Kept.{HasRanks}
-use Rattle.dk_graph.specs.Ordering.{ArePlaces}
 use Rattle.dk_graph.specs.Paths.{HasPathBack, IsPath}
-use Rattle.dk_graph.specs.Raising.{IsReached, IsRisen, IsRising, Rises}
 use Rattle.dk_graph.specs.declared.nodes.Edge.{Edge}
 use Rattle.dk_graph.specs.declared.nodes.Node.{Node}
-use Rattle.dk_graph.proofs.LongPaths.{below-true, cycle}
-use Rattle.dk_graph.proofs.Heights.{Climbs, depths-exact, eqb_same, eqb_true, height-suc}
+use Rattle.dk_graph.proofs.LongPaths.{below-true}
+use Rattle.dk_graph.proofs.Heights.{eqb_same, eqb_true, height-suc}
 use Rattle.dk_graph.proofs.Links.{edge-below}
 use Rattle.dk_graph.proofs.Members.{contained-has, has-filter}
 use Rattle.dk_graph.proofs.Places.{slice_get-at}
@@ -88,6 +85,12 @@ into-at ns q i d within =
     let e : Edge = get_or (edges_into ns q) i d in
     let found = has-filter (λ f. f.parent.0 == q) (edges ns) e (i, slice_get-at (edges_into ns q) i d within) in
     (contained-has (edges ns) found.0.0 e found.0.1, eqb_true e.parent.0 q found.1)
+
+pub into-row : (ns : List Node) (q : ℕ) (row : List Edge) (i : ℕ) (d : Edge) → row ≡ edges_into ns q → i < length row
+    → Contains (edges ns) (get_or row i d) × ((get_or row i d).parent.0 ≡ q)
+into-row ns q row i d is within =
+    subst (λ (es : List Edge). Contains (edges ns) (get_or es i d) × ((get_or es i d).parent.0 ≡ q)) (sym is)
+    (into-at ns q i d (subst (λ (es : List Edge). i < length es) is within))
 
 -- one edge further down a row of such
 pub highest-step : (h : ℕ → ℕ) (q : ℕ) (row : List Edge) (i : ℕ) (d : Edge) → i < length row → (get_or row i d).parent.0 ≡ q

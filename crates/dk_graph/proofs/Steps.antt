@@ -6,7 +6,7 @@ use Rattle.std.proofs.lemmas.List.Elements.{Contains-append_left, Contains-push}
 use Rattle.dk_graph.specs.declared.nodes.Edge.{Edge}
 use Rattle.dk_graph.specs.Graphs.{height}
 use Rattle.dk_graph.specs.Raising.{Raising, above}
-use Rattle.dk_graph.specs.Raising.{rank, over, IsSettled, IsReached, IsLow}
+use Rattle.dk_graph.specs.Raising.{first_rank, rank, over, IsSettled, IsReached, IsLow}
 use Rattle.dk_graph.proofs.Heights.{highest-ge, eqb_true, eqb_same}
 use Rattle.dk_graph.proofs.Places.{some-injective}
 use Rattle.dk_graph.proofs.Members.{Has}
@@ -47,9 +47,6 @@ stopped limit child s parent h =
     by true b q h = absurd (cc)
     by false true q h = absurd (cc)
     by false false q h = lt_false (rank s child + 1) limit q
-
-suc-one : (n : ℕ) → suc n ≡ n + 1
-suc-one n = omega arith
 
 pub eq_or_not : (m n : ℕ) → (m ≡ n) ⊎ (m ≢ n)
 eq_or_not m n = by (m == n) refl

@@ -2,7 +2,7 @@
 use Rattle.std.proofs.Common.{◌≡◌, ℕ, zero, suc, ◌==◌, filter, ◌+◌, ◌<◌, ◌≤◌, ◌⊎◌, inl, inr, List, [], ◌∷◌, length, Option, None, Some, option_and_then, slice_get, slice_index, refl, ap, subst, sym, ◌∙◌, Contains, arith}
 use Rattle.dk_graph.specs.declared.nodes.Edge.{Edge}
 use Rattle.dk_graph.specs.Graphs.{height, edges, edges_from}
-use Rattle.dk_graph.specs.Raising.{Raising, above, raised, ParentsBelow, rank, over, IsSettled, IsReached, IsLow, IsRising, IsRisen, HasLongPath}
+use Rattle.dk_graph.specs.Raising.{Raising, above, first_rank, raised, ParentsBelow, rank, over, IsSettled, IsReached, IsLow, IsRising, IsRisen, HasLongPath}
 use Rattle.dk_graph.proofs.Places.{some-injective}
 use Rattle.dk_graph.proofs.Members.{Has, has-contained, has-filter, filter-has}
 use Rattle.dk_graph.specs.declared.nodes.Node.{Node}
