@@ -12,10 +12,11 @@ use Rattle.dk_points.proofs.EndsOfEdges.{edges-into}
 use Rattle.dk_points.proofs.Nodes.{length-nodes}
 use Rattle.dk_points.specs.Links.{nodes}
 use Rattle.dk_points.specs.Table.{Point}
-use Rattle.dk_hierarchy.proofs.Descending.{IsInto, below_is_way, more_paths, others_are, way_done, way_is}
+use Rattle.dk_hierarchy.proofs.Descending.{IsInto, begun, below_is_way, more_paths, others_are, way_done, way_is}
 use Rattle.dk_hierarchy.proofs.MoreWays.{IsLevel, all_parts, all_with_way_at, below_with_way, each_added, each_holds, levels_with_way, through_append, way_at_added}
 use Rattle.dk_hierarchy.proofs.Telling.{Samples, same_append, same_as, same_inner, same_refl, same_trans}
-use Rattle.dk_hierarchy.specs.Descent.{AreBelow, AreLevels, IsDescent, IsWayDown, ways_in, with_way_at, with_ways_below}
+use Rattle.dk_hierarchy.specs.Descent.{AreBelow, AreLevels, IsDescent, IsWayDown, first_way, ways_in, with_way_at, with_ways_below}
+use Rattle.dk_hierarchy.specs.Samples.{all_vars_of}
 use Rattle.dk_hierarchy.specs.Ways.{SamplesTellTheSame, samples_through, samples_through_all, way_below}
 use Rattle.dk_hierarchy.specs.declared.way.Way.{Way}
 
@@ -133,3 +134,16 @@ module _ (ps : List Point) (deep : ParentsAreDeeper (nodes ps)) (ranks : List �
 pub ways_taken : (levels new : List (ℕ × List Way)) (rank : ℕ) (level : List Way) → levels ≡ new ++ (rank, level) ∷ [] → ways_in levels ≡ ways_in new ++ level
 ways_taken levels new rank level is =
     ap ways_in is ∙ (flat_map-append (λ (l : ℕ × List Way). l.1) new ((rank, level) ∷ []) ∙ ap (λ ws. ways_in new ++ ws) (append-nil level))
+
+-- the descent before any way is followed
+pub at_first : (ps : List Point) (ranks : List ℕ) (p : ℕ) → p < length ps → (levels : List (ℕ × List Way))
+    → levels ≡ (slice_index ranks p, first_way p (length (all_vars_of ps p)) ∷ []) ∷ [] → IsDescent ps p [] (ways_in levels) × AreLevels ranks levels
+at_first ps ranks p within levels is =
+    let first : Way = first_way p (length (all_vars_of ps p)) in
+    let rank = slice_index ranks p in (
+      subst (λ (ls : List (ℕ × List Way)). IsDescent ps p [] (ways_in ls)) (sym is) (begun ps p within),
+      subst (AreLevels ranks) (sym is)
+          (All-cons (IsLevel ranks) (rank, first ∷ []) []
+          (All-cons (λ (w : Way). slice_index ranks w.point.0 ≡ rank) first [] refl (All-nil (λ (w : Way). slice_index ranks w.point.0 ≡ rank)))
+          (All-nil (IsLevel ranks))),
+    )

@@ -2,8 +2,8 @@
 use Rattle.std.specs.Prelude.{◌≡◌, ◌<◌, ◌≤◌, ◌+◌, ◌==◌, ◌++◌, ◌⊎◌, ℕ, zero, suc, Bool, true, false, not, All, Contains, List, [], ◌∷◌, if◌then◌else◌, flat_map, fold, length, map, nat_lt, slice_get, slice_index_or, slice_set, Some, refl}
 use Rattle.std.specs.List.{range_with_len}
 use Rattle.std.proofs.Common.{◌∙◌, ◌≢◌, ap, arith, inl, inr, subst, sum_by, sym, true≢false}
-use Rattle.std.proofs.lemmas.List.{append-nil, get_or-set_same, get_or-set_other, length-append, length-set}
-use Rattle.std.proofs.lemmas.List.Elements.{Contains-append_cases, Contains-append_left, Contains-push, Contains-push_cases}
+use Rattle.std.proofs.lemmas.List.{append-nil, get_or-set_same, get_or-set_other, length-append, length-map, length-set}
+use Rattle.std.proofs.lemmas.List.Elements.{All-contains, Contains-append_cases, Contains-append_left, Contains-push, Contains-push_cases}
 use Rattle.std.proofs.lemmas.List.FromFn.{fill_by_all}
 use Rattle.std.proofs.lemmas.List.Sums.{sum_by-set}
 use Rattle.dk_base.specs.Pieces.{is_empty}
@@ -19,6 +19,7 @@ use Rattle.dk_graph.specs.Graphs.{edges, edges_from, edges_into, has_cycle}
 use Rattle.dk_graph.specs.Raising.{ParentsBelow}
 use Rattle.dk_graph.specs.declared.nodes.Edge.{Edge}
 use Rattle.dk_points.proofs.Nodes.{length-nodes}
+use Rattle.dk_points.specs.Ends.{AreFrom}
 use Rattle.dk_points.specs.Links.{nodes}
 use Rattle.dk_points.specs.Table.{Point}
 use Rattle.dk_presence.specs.Patterns.{capped}
@@ -161,6 +162,12 @@ parents-marked (f ∷ es) s below (suc k) e at =
     let next = marked s f.parent.0 in
     let first = went-marked s f.parent.0 (below zero f refl) in
     parents-marked es next (λ j g is. subst (λ n. g.parent.0 < n) (sym first.long) (below (suc j) g is)) k e at
+
+-- edges from a point, as they are found
+pub parents-below : (n p : ℕ) (row : List Edge) (m : ℕ) → AreFrom n p row → m ≡ n → ParentsBelow m row
+parents-below n p row m from is k e at =
+    let parent = (All-contains (λ (f : Edge). (f.child.0 ≡ p) × (f.parent.0 < n)) row e from (contained-has row k e at)).1 in
+    omega (arith, parent, is)
 
 -- ---- what marks say of samples
 -- Points with own samples are marked, and all that are marked have samples. The parents of a marked point are marked, or it waits.
@@ -374,3 +381,67 @@ module _ (ps : List Point) (free : has_cycle (nodes ps) ≡ false) (engines : Li
       unempty : (b : Bool) → not b ≡ true → b ≡ false
       unempty true h = absurd (cc)
       unempty false h = refl
+
+-- ---- as the code meets it
+abbrev pub IsGoing : List Point → List Whole → List Bool → List ℕ → Type 0
+IsGoing ps engines marks waiting =
+    (length marks ≡ length ps)
+    × ((q : ℕ) → Contains waiting q → q < length ps)
+    × ((own : OwnSamples) → EnginesStandFor engines (own_samples_of ps own) → IsMarking ps own (record { marks = marks; waiting = waiting }))
+
+pub going-first : (ps : List Point) → has_cycle (nodes ps) ≡ false → (engines : List Whole) → AreEnginesOf ps engines
+    → (marks : List Bool) → marks ≡ map keeps_some engines → (n : ℕ) → n ≡ length ps → (waiting : List ℕ) → waiting ≡ range_with_len 0 n
+    → IsGoing ps engines marks waiting
+going-first ps free engines are marks marks-are n same waiting waiting-are = (
+  ap length marks-are ∙ (length-map engines keeps_some ∙ are.long),
+  λ q there. subst (λ m. q < m) same (wait-below n q (subst (λ (xs : List ℕ). Contains xs q) waiting-are there)),
+  λ own stand. subst (λ (ms : List Bool). IsMarking ps own (record { marks = ms; waiting = waiting })) (sym marks-are)
+      (first-marking ps free engines are own stand waiting
+      (λ q within. subst (λ (xs : List ℕ). Contains xs q) (sym waiting-are) (all-wait n q (subst (λ m. q < m) (sym same) within)))),
+)
+
+module _ (ps : List Point) (free : has_cycle (nodes ps) ≡ false) (engines : List Whole) (marks : List Bool) (items rest : List ℕ) (p : ℕ)
+    (popped : items ≡ rest ++ p ∷ []) (going : IsGoing ps engines marks items) where
+  still-below : (q : ℕ) → Contains rest q → q < length ps
+  still-below q there = going.1 q (subst (λ (xs : List ℕ). Contains xs q) (sym popped) (Contains-append_left rest (p ∷ []) q there))
+
+  pub point-within : p < length ps
+  point-within = going.1 p (subst (λ (xs : List ℕ). Contains xs p) (sym popped) (Contains-push rest p))
+
+  pub going-left : slice_index_or marks p false ≡ false → IsGoing ps engines marks rest
+  going-left none = (going.0, still-below, λ own stand. left-out ps free own marks items rest p popped (going.2 own stand) none)
+
+  one-less : to_do (record { marks = marks; waiting = rest }) < to_do (record { marks = marks; waiting = items })
+  one-less = let long = ap length popped in omega (arith, long, length-append rest (p ∷ []))
+
+  pub less-left : to_do (record { marks = marks; waiting = rest }) < to_do (record { marks = marks; waiting = items })
+  less-left = one-less
+
+  module _ (row : List Edge) (at : row ≡ edges_from (nodes ps) p) (from : AreFrom (length ps) p row) where
+    pub row-below : ParentsBelow (length marks) row
+    row-below = parents-below (length ps) p row (length marks) from going.0
+
+    went : Went (IsParent row) (record { marks = marks; waiting = rest }) (marked_all row (record { marks = marks; waiting = rest }))
+    went = went-all row (record { marks = marks; waiting = rest }) row-below
+
+    parent-below : (q : ℕ) → IsParent row q → q < length ps
+    parent-below q parent =
+        let e : Edge = parent.1 in
+        let below = row-below parent.0 e parent.2 in
+        subst (λ m. m < length ps) parent.3 (omega (arith, below, going.0))
+
+    module _ (t : Marking) (is : t ≡ marked_all row (record { marks = marks; waiting = rest })) where
+      pub going-on : slice_index_or marks p false ≡ true → IsGoing ps engines t.marks t.waiting
+      going-on here = subst (λ (s : Marking). IsGoing ps engines s.marks s.waiting) (sym is) (
+        went.long ∙ going.0,
+        went.below (length ps) parent-below still-below,
+        λ own stand. passed-on ps free own marks items rest p popped (going.2 own stand) row at row-below here,
+      )
+
+      pub less-on : to_do t < to_do (record { marks = marks; waiting = items })
+      less-on = let same = ap to_do is in omega (arith, same, went.rest, one-less)
+
+pub ended : (ps : List Point) → has_cycle (nodes ps) ≡ false → (engines : List Whole) (marks : List Bool) (waiting : List ℕ) → waiting ≡ [] → IsGoing ps engines marks waiting
+    → (own : OwnSamples) → EnginesStandFor engines (own_samples_of ps own) → marks ≡ have_samples ps own
+ended ps free engines marks waiting none going own stand =
+    marks-are ps free own marks going.0 (subst (λ (ws : List ℕ). IsMarking ps own (record { marks = marks; waiting = ws })) none (going.2 own stand))

@@ -104,7 +104,8 @@ pub(crate) fn ways_down(
     };
     let number = engines[top.0 as usize].vars().len() as u32;
     let mut levels = Levels::new(alloc);
-    levels.add(ranks[top.0 as usize], first_way(alloc, top, number)?)?;
+    let first = first_way(alloc, top, number)?;
+    levels.add(ranks[top.0 as usize], first)?;
     let mut ways = List::new(alloc);
     while let Some((rank, level)) = levels.pop() {
         descent.follow(&mut ways, &mut levels, rank, level)?;

@@ -62,10 +62,11 @@ pub fn have_samples(
     let mut marks = own_marks(alloc, engines)?;
     let mut waiting = places(alloc, points.len())?;
     while let Some(child) = waiting.pop() {
-        if marks[child as usize] {
-            let row = points.from(PointId(child));
-            mark_parents(row, marks.as_mut_slice(), &mut waiting)?;
+        if !marks[child as usize] {
+            continue;
         }
+        let row = points.from(PointId(child));
+        mark_parents(row, marks.as_mut_slice(), &mut waiting)?;
     }
     Ok(marks)
 }
