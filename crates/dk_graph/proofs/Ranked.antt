@@ -1,5 +1,7 @@
 -- Ranks climb along paths, so there is no cycle; and the depths of a graph without one.
 use Rattle.std.proofs.Common.{◌≡◌, ◌∙◌, ℕ, suc, ◌+◌, ◌-◌, ◌<◌, ◌≤◌, ◌==◌, Bool, true, false, cond, nat_lt, nat_le, max, List, [], ◌∷◌, ◌++◌, length, drop, filter, get_or, slice_index, Contains, if◌then◌else◌, true≢false, refl, ap, subst, sym, length-append, arith}
+use Rattle.std.specs.Ordering.{is_lt, nat_cmp, ord_max}
+use Rattle.std.specs.declared.cmp.Ordering.TheVariants.{Less, Equal, Greater}
 use Rattle.std.proofs.lemmas.List.{at_drop_more}
 use Rattle.dk_graph.specs.Graphs.{edges, edges_into, depth_of, has_cycle, height, highest, AreRanks, ParentsAreDeeper}
 use Rattle.dk_graph.specs.Kept.{HasRanks}
@@ -11,6 +13,7 @@ use Rattle.dk_graph.proofs.Heights.{eqb_same, eqb_true, height-suc}
 use Rattle.dk_graph.proofs.Links.{edge-below}
 use Rattle.dk_graph.proofs.Members.{contained-has, has-filter}
 use Rattle.dk_graph.proofs.Places.{slice_get-at}
+use Rattle.dk_graph.proofs.Steps.{lt_false, lt_true}
 use Rattle.dk_graph.proofs.Walks.{cycle-law, longest, path-append, path-of-height}
 
 pub are-ranks : (ns : List Node) (rs : List ℕ) → HasRanks ns rs → AreRanks ns rs
@@ -102,16 +105,22 @@ highest-step h q row i d within same =
 pub nought-max : (n : ℕ) → max 0 n ≡ n
 nought-max n = omega arith
 
+-- the greater of two numbers, as a call finds it
+pub max-is : (a b : ℕ) → ord_max nat_cmp a b ≡ max a b
+max-is a b = by (nat_lt b a) refl (b == a)
+  where
+    by : (less : Bool) → nat_lt b a ≡ less → (same : Bool) → cond (is_lt (cond less Less (cond same Equal Greater))) a b ≡ max a b
+    by true is same = let after = lt_true b a is in omega (arith, after)
+    by false is true = let before = lt_false b a is in omega (arith, before)
+    by false is false = let before = lt_false b a is in omega (arith, before)
+
 -- no depth comes to the number of points
 pub depth-low : (ns : List Node) → has_cycle ns ≡ false → (q : ℕ) → q < length ns → depth_of ns q < length ns
 unfolding has_cycle
 depth-low ns free q below = by (nat_lt (depth_of ns q) (length ns)) refl
   where
-    lt-true : (m n : ℕ) → nat_lt m n ≡ true → m < n
-    lt-true m n h = grind (arith, h)
-
     by : (b : Bool) → nat_lt (depth_of ns q) (length ns) ≡ b → depth_of ns q < length ns
-    by true is = lt-true (depth_of ns q) (length ns) is
+    by true is = lt_true (depth_of ns q) (length ns) is
     by false is = absurd (true≢false (sym (below-true (λ r. nat_le (length ns) (depth_of ns r)) (length ns) q below (le-true (depth_of ns q) (length ns) is)) ∙ free))
       where
         le-true : (m n : ℕ) → nat_lt m n ≡ false → nat_le n m ≡ true

@@ -41,10 +41,11 @@ fn mark_parents(edges: &[Edge], marks: &mut [bool], waiting: &mut Vec<u32>) -> R
 {
     for edge in edges {
         let parent = edge.parent.0;
-        if !marks[parent as usize] {
-            marks[parent as usize] = true;
-            waiting.push(parent)?;
+        if marks[parent as usize] {
+            continue;
         }
+        marks[parent as usize] = true;
+        waiting.push(parent)?;
     }
     Ok(())
 }

@@ -1,9 +1,9 @@
-use Rattle.std.proofs.Common.{◌≡◌, ◌∙◌, ◌+◌, ◌<◌, ◌≤◌, ap, arith, drop, get_or, length, max, rules, subst, sym}
+use Rattle.std.proofs.Common.{◌≡◌, ◌∙◌, ◌+◌, ◌<◌, ◌≤◌, ap, arith, drop, get_or, length, slice_index, subst, sym}
 use Rattle.std.proofs.lemmas.List.{drop_all}
 use Rattle.dk_graph.specs.Graphs.{depth_of, edges_into, highest}
 use Rattle.dk_graph.specs.declared.nodes.Edge.{Edge}
 use Rattle.dk_graph.proofs.Links.{edge-below}
-use Rattle.dk_graph.proofs.Ranked.{depth-into, depth-low, highest-step, into-row, no-cycle, nought-max}
+use Rattle.dk_graph.proofs.Ranked.{depth-into, depth-low, highest-step, into-row, max-is, no-cycle, nought-max}
 use Rattle.dk_graph.proofs.depths.+depth_by_paths.Goals as goal
 
 abbrev none : Edge
@@ -23,9 +23,9 @@ depth_by_paths-requires t c =
     let i = c.loop-edge.edge-index in
     let e : Edge = get_or row i none in
     let into = into-row ns c.args.p.0 row i none c.edges_into-row.ensures c.loop-edge-test.true in
-    let climbs = c.requires.ranks.climb e into.0 in
+    let climbs = subst (λ q. slice_index c.args.ranks.now e.child.0 < slice_index c.args.ranks.now q) into.1 (c.requires.ranks.climb e into.0) in
     let below = edge-below ns e into.0 in
-    λ κs low. (?, (search rules, (c.requires.ranks, below.0)))
+    (omega (arith, climbs, c.decreases), (c.requires.ranks, below.0))
 
 pub overflow_add-depth_by_paths : goal.overflow_add-depth_by_paths
 overflow_add-depth_by_paths t c =
@@ -36,7 +36,7 @@ overflow_add-depth_by_paths t c =
     let into = into-row ns c.args.p.0 row i none c.edges_into-row.ensures c.loop-edge-test.true in
     let below = edge-below ns e into.0 in
     let less = depth-low ns (no-cycle ns c.args.ranks.now c.requires.ranks) e.child.0 below.0 in
-    let few = c.len-_count.ensures.few in
+    let few = c.len-count.ensures.few in
     omega (arith, less, few, c.depth_by_paths.ensures)
 
 pub loop-edge-preserved : goal.loop-edge-preserved
@@ -47,7 +47,8 @@ loop-edge-preserved t c =
     let i = c.loop-edge.edge-index in
     let into = into-row ns p row i none c.edges_into-row.ensures c.loop-edge-test.true in
     let step = highest-step (depth_of ns) p row i none c.loop-edge-test.true into.1 in
-    omega (arith, c.loop-edge.invariant, step, c.depth_by_paths.ensures)
+    let more = c.max-depth.ensures ∙ max-is c.loop-edge.depth (c.depth_by_paths.result + 1) in
+    omega (arith, c.loop-edge.invariant, step, more, c.depth_by_paths.ensures)
 
 pub returns : goal.returns
 returns t c =
