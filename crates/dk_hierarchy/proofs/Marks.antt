@@ -15,7 +15,7 @@ use Rattle.dk_graph.proofs.Members.{Has, contained-has, filter-has, has-containe
 use Rattle.dk_graph.proofs.Places.{some-injective}
 use Rattle.dk_graph.proofs.Ranked.{deeper}
 use Rattle.dk_graph.proofs.Steps.{eq_or_not}
-use Rattle.dk_graph.specs.Graphs.{edges, edges_from, edges_into, has_cycle}
+use Rattle.dk_graph.specs.Graphs.{depth_of, edges, edges_from, edges_into, has_cycle}
 use Rattle.dk_graph.specs.Raising.{ParentsBelow}
 use Rattle.dk_graph.specs.declared.nodes.Edge.{Edge}
 use Rattle.dk_points.proofs.Nodes.{length-nodes}
@@ -312,13 +312,16 @@ module _ (ps : List Point) (free : has_cycle (nodes ps) ≡ false) (own : OwnSam
         ∙ empty-each (λ e. map (mapped_sample (partners_of ps e)) (samples_within n ps own e.child.0)) (edges_into (nodes ps) q)
         (λ k e at. let child = no-edge q none e (k, at) in ap (map (mapped_sample (partners_of ps e))) (within-none n e.child.0 child.0 child.1))
 
-    mark-is : (q : ℕ) → q < length ps → slice_index_or marks q false ≡ has_samples ps own q
+    samples-none : (q : ℕ) → q < length ps → slice_index_or marks q false ≡ false → samples_of ps own q ≡ []
     unfolding samples_of
+    samples-none q within none = within-none (depth_of (nodes ps) q) q within none
+
+    mark-is : (q : ℕ) → q < length ps → slice_index_or marks q false ≡ has_samples ps own q
     mark-is q within = by (slice_index_or marks q false) refl
       where
         by : (b : Bool) → slice_index_or marks q false ≡ b → b ≡ not (is_empty (samples_of ps own q))
         by true at = ap not (sym (is.have q at))
-        by false at = ap (λ (xs : List (List Value)). not (is_empty xs)) (sym (within-none _ q within at))
+        by false at = ap (λ (xs : List (List Value)). not (is_empty xs)) (sym (samples-none q within at))
 
     pub marks-are : marks ≡ have_samples ps own
     marks-are = fill_by_all (has_samples ps own) marks (length ps) false long mark-is
