@@ -1,10 +1,10 @@
 -- Marks of points that go up along edges, and the points that have samples.
-use Rattle.std.specs.Prelude.{◌≡◌, ◌<◌, ◌≤◌, ◌+◌, ◌==◌, ◌++◌, ◌⊎◌, ℕ, zero, suc, Bool, true, false, not, All, Contains, List, [], ◌∷◌, if◌then◌else◌, flat_map, fold, length, map, nat_lt, slice_get, slice_index_or, slice_set, Some, refl}
+use Rattle.std.specs.Prelude.{◌≡◌, ◌<◌, ◌≤◌, ◌+◌, ◌==◌, ◌++◌, ◌⊎◌, ℕ, zero, suc, Bool, true, false, not, Contains, List, [], ◌∷◌, if◌then◌else◌, flat_map, length, map, nat_lt, slice_get, slice_index_or, slice_set, Some, refl}
 use Rattle.std.specs.List.{range_with_len}
 use Rattle.std.proofs.Common.{◌∙◌, ◌≢◌, ap, arith, inl, inr, subst, sum_by, sym, true≢false}
-use Rattle.std.proofs.lemmas.List.{append-nil, get_or-set_same, get_or-set_other, length-append, length-map, length-set}
-use Rattle.std.proofs.lemmas.List.Elements.{All-contains, Contains-append_cases, Contains-append_left, Contains-push, Contains-push_cases}
-use Rattle.std.proofs.lemmas.List.FromFn.{fill_by_all}
+use Rattle.std.proofs.lemmas.List.{get_or-set_same, get_or-set_other, length-append, length-map, length-set}
+use Rattle.std.proofs.lemmas.List.Elements.{All-contains, Contains-append_left, Contains-push, Contains-push_cases}
+use Rattle.std.proofs.lemmas.List.FromFn.{fill_by_all, map-range_with_len_more}
 use Rattle.std.proofs.lemmas.List.Sums.{sum_by-set}
 use Rattle.dk_base.specs.Pieces.{is_empty}
 use Rattle.dk_base.specs.declared.values.Value.{Value}
@@ -13,7 +13,6 @@ use Rattle.dk_graph.proofs.Heights.{eqb_same, eqb_true}
 use Rattle.dk_graph.proofs.Links.{edge-below}
 use Rattle.dk_graph.proofs.Members.{Has, contained-has, filter-has, has-contained, has-filter}
 use Rattle.dk_graph.proofs.Places.{some-injective}
-use Rattle.dk_graph.proofs.Ranked.{deeper}
 use Rattle.dk_graph.proofs.Steps.{eq_or_not}
 use Rattle.dk_graph.specs.Graphs.{depth_of, edges, edges_from, edges_into, has_cycle}
 use Rattle.dk_graph.specs.Raising.{ParentsBelow}
@@ -35,8 +34,11 @@ mark s q = slice_index_or s.marks q false
 abbrev with_mark : Marking → ℕ → Marking
 with_mark s p = record { marks = slice_set s.marks p true; waiting = s.waiting ++ p ∷ [] }
 
+abbrev lacks : Bool → ℕ
+lacks b = if b then 0 else 1
+
 abbrev unmarked : List Bool → ℕ
-unmarked marks = sum_by (λ (b : Bool). if b then 0 else 1) marks
+unmarked marks = sum_by lacks marks
 
 -- a number that falls with each point that waits no longer
 abbrev pub to_do : Marking → ℕ
@@ -111,12 +113,12 @@ module _ (s : Marking) (p : ℕ) (within : p < length s.marks) where
     ];
     below = λ n new old q there. elim (Contains-push_cases s.waiting p q there) [
       | inl before ↦ old q before
-      | inr same ↦ new q same
+      | inr same ↦ new q (sym same)
     ];
     long = length-set s.marks p true;
     rest =
-        let one : unmarked (slice_set s.marks p true) + (if mark s p then 0 else 1) ≡ unmarked s.marks + 0 = sum_by-set (λ (b : Bool). if b then 0 else 1) s.marks p true false within in
-        let was : (if mark s p then 0 else 1) ≡ 1 = ap (λ (b : Bool). if b then 0 else 1) none in
+        let one : unmarked (slice_set s.marks p true) + lacks (mark s p) ≡ unmarked s.marks + 0 = sum_by-set lacks s.marks p true false within in
+        let was : lacks (mark s p) ≡ 1 = ap lacks none in
         omega (arith, one, was, length-append s.waiting (p ∷ []));
   }
 
@@ -220,7 +222,10 @@ module _ (ps : List Point) (free : has_cycle (nodes ps) ≡ false) (own : OwnSam
 
     -- a child that waited still waits, or it is this point
     waited : (q : ℕ) → Contains items q → Contains rest q ⊎ (q ≡ p)
-    waited q there = Contains-push_cases rest p q (subst (λ (xs : List ℕ). Contains xs q) popped there)
+    waited q there = elim (Contains-push_cases rest p q (subst (λ (xs : List ℕ). Contains xs q) popped there)) [
+      | inl still ↦ inl still
+      | inr same ↦ inr (sym same)
+    ]
 
     pub left-out : slice_index_or marks p false ≡ false → IsMarking ps own was
     left-out none = record {
@@ -327,6 +332,15 @@ module _ (ps : List Point) (free : has_cycle (nodes ps) ≡ false) (own : OwnSam
     marks-are = fill_by_all (has_samples ps own) marks (length ps) false long mark-is
 
 -- ---- at first
+map-same : (xs : List ℕ) → map (λ k. k) xs ≡ xs
+map-same [] = refl
+map-same (x ∷ xs) = ap (λ ys. x ∷ ys) (map-same xs)
+
+pub range-more : (n : ℕ) → range_with_len 0 (n + 1) ≡ range_with_len 0 n ++ n ∷ []
+range-more n =
+    sym (map-same (range_with_len 0 (n + 1)))
+    ∙ (map-range_with_len_more (λ k. k) 0 n n (omega arith) ∙ ap (λ xs. xs ++ n ∷ []) (map-same (range_with_len 0 n)))
+
 contains-range : (a n q : ℕ) → a ≤ q → q < a + n → Contains (range_with_len a n) q
 contains-range a zero q from to = absurd (omega (arith, from, to))
 contains-range a (suc n) q from to = elim (eq_or_not a q) [

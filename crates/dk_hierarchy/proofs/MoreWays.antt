@@ -13,7 +13,7 @@ use Rattle.dk_base.specs.declared.kinds.VarId.{VarId}
 use Rattle.dk_graph.proofs.Places.{some-injective}
 use Rattle.dk_graph.specs.declared.nodes.Edge.{Edge}
 use Rattle.dk_presence.specs.Patterns.{capped}
-use Rattle.dk_hierarchy.proofs.Telling.{Samples, repeated_capped, repeated_more, same_append, same_as, same_behind, same_inner, same_refl, same_trans}
+use Rattle.dk_hierarchy.proofs.Telling.{Samples, repeated_capped, repeated_more, same_append, same_as, same_behind, same_inner, same_refl, same_swap, same_trans}
 use Rattle.dk_hierarchy.specs.Descent.{AreBelow, AreLevels, ways_in, with_way_at}
 use Rattle.dk_hierarchy.specs.Samples.{mapped_sample}
 use Rattle.dk_hierarchy.specs.Ways.{SamplesTellTheSame, repeated_samples, same_partner, same_way, samples_through, samples_through_all, with_paths, with_way}

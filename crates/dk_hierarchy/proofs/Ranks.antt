@@ -1,19 +1,20 @@
 -- Levels as a map has them: a level is found at its rank.
-use Rattle.std.specs.Prelude.{◌≡◌, ◌==◌, ℕ, Bool, true, false, List, [], ◌∷◌, Some, nat_lt, unwrap_or, cond, refl, if◌then◌else◌}
+use Rattle.std.specs.Prelude.{◌≡◌, ◌==◌, ◌<◌, ℕ, All, Bool, true, false, IfSome, List, [], ◌∷◌, Option, None, Some, nat_lt, unwrap_or, cond, refl, if◌then◌else◌}
 use Rattle.std.specs.BTreeMap.{insert_entry, is_at}
 use Rattle.std.specs.Cmp.{nat_cmp_total}
 use Rattle.std.specs.List.{AllByRecursion}
 use Rattle.std.specs.List.Sorted.{IsStrictlySortedBy}
 use Rattle.std.specs.Map.{keys_of, lookup, remove_entry}
 use Rattle.std.specs.Ordering.{is_eq, match_ordering, nat_cmp}
-use Rattle.std.specs.declared.cmp.Ordering.{Ordering}
 use Rattle.std.specs.declared.cmp.Ordering.TheVariants.{Less, Equal, Greater}
 use Rattle.std.proofs.Common.{◌∙◌, ap, subst, sym}
 use Rattle.std.proofs.lemmas.Bool.{eqb-true}
+use Rattle.std.proofs.lemmas.List.Elements.{All-cons, All-head, All-nil, All-tail}
 use Rattle.std.proofs.lemmas.Map.{NonePasses, lookup-none}
 use Rattle.std.proofs.lemmas.Map.Entries.{none_below_head}
 use Rattle.std.proofs.lemmas.Map.Keys.{sorted_head, sorted_tail}
-use Rattle.dk_hierarchy.specs.Descent.{ways_at, with_way_at}
+use Rattle.dk_graph.proofs.Steps.{lt_true}
+use Rattle.dk_hierarchy.specs.Descent.{AreBelow, ways_at, with_way_at}
 use Rattle.dk_hierarchy.specs.Ways.{with_way}
 use Rattle.dk_hierarchy.specs.declared.way.Way.{Way}
 
@@ -73,3 +74,22 @@ added_at (level ∷ levels) rank way sorted =
         ∙ ap (λ o. match_ordering o ((rank, with_way (ways_at levels rank) way) ∷ level ∷ remove_entry test levels) ((level.0, with_way (ways_at levels rank) way) ∷ remove_entry test levels)
         (level ∷ put (remove_entry test levels) (ways_at levels rank))) greater
         ∙ ap (λ ls. level ∷ ls) rest
+
+-- the last level was taken out: the others stand below it
+less-than : (q n : ℕ) → nat_cmp q n ≡ Less → q < n
+less-than q n is = by (nat_lt q n) refl (q == n) is
+  where
+    by : (less : Bool) → nat_lt q n ≡ less → (same : Bool) → cond less Less (cond same Equal Greater) ≡ Less → q < n
+    by true at same h = lt_true q n at
+    by false at true h = absurd (cc)
+    by false at false h = absurd (cc)
+
+below-keys : (n : ℕ) (levels : List (ℕ × List Way)) → All (λ q. nat_cmp q n ≡ Less) (keys_of levels) → AreBelow n levels
+below-keys n [] all = All-nil (λ (l : ℕ × List Way). l.0 < n)
+below-keys n (level ∷ levels) all =
+    All-cons (λ (l : ℕ × List Way). l.0 < n) level levels (less-than level.0 n (All-head (λ q. nat_cmp q n ≡ Less) level.0 (keys_of levels) all))
+    (below-keys n levels (All-tail (λ q. nat_cmp q n ≡ Less) level.0 (keys_of levels) all))
+
+pub popped-below : (o : Option (ℕ × List Way)) (levels : List (ℕ × List Way)) → IfSome o (λ p. All (λ q. nat_cmp q p.0 ≡ Less) (keys_of levels)) → IfSome o (λ p. AreBelow p.0 levels)
+popped-below None levels all = all
+popped-below (Some p) levels all = below-keys p.0 levels all

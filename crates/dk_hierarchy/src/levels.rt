@@ -1,7 +1,8 @@
 // Ways by the ranks of the points that they lead to.
 ghost use Rattle.std.specs.Prelude.{◌≡◌, ◌∷◌, ◌++◌, [], IfOk, IfSome, IfNone, OnOk};
 ghost use Rattle.std.specs.BTreeMap.{is_at};
-ghost use Rattle.std.specs.Map.{remove_entry};
+ghost use Rattle.std.specs.List.Sorted.{IsStrictlySortedBy};
+ghost use Rattle.std.specs.Map.{keys_of, remove_entry};
 ghost use Rattle.std.specs.Ordering.{nat_cmp};
 ghost use Rattle.dk_hierarchy.specs.Descent.{AreBelow, first_way, ways_at, with_way_at};
 ghost use Rattle.dk_hierarchy.specs.Ways.{same_way, with_way};
@@ -70,11 +71,9 @@ impl Levels {
     fn take(&mut self, rank: u32) -> List<Way>
         ensures ways { result ≡ ways_at self.old rank }
         ensures others { self.new ≡ remove_entry (is_at (nat_cmp rank)) self.old }
+        ensures sorted { IsStrictlySortedBy nat_cmp (keys_of self.old) }
     {
-        match self.kept.remove(&rank) {
-            Some(level) => level,
-            None => List::new(self.alloc),
-        }
+        self.kept.remove(&rank).unwrap_or(List::new(self.alloc))
     }
 
     /// A way more, at the rank of its lower point. After an error the levels may be any.

@@ -1,6 +1,7 @@
-use Rattle.std.specs.Prelude.{◌≡◌, ◌++◌, [], ◌∷◌, ℕ, List, length, slice_index}
+use Rattle.std.specs.Prelude.{◌≡◌, [], ◌∷◌, ℕ, List, length, slice_index}
 use Rattle.std.proofs.Common.{◌∙◌, ap, arith, subst, sym}
 use Rattle.dk_engine.specs.Levels.{Whole}
+use Rattle.dk_points.proofs.Nodes.{length-nodes}
 use Rattle.dk_hierarchy.proofs.Following.{at_first, ways_taken}
 use Rattle.dk_hierarchy.proofs.MoreWays.{above_all, above_below, above_last}
 use Rattle.dk_hierarchy.proofs.TableEngines.{vars_are, vars_few}
@@ -16,8 +17,14 @@ overflow_cast-number c =
     let read = ap (λ (e : Whole). length e.infos) c.index-engines-top.is in
     omega (arith, few, same, read)
 
-pub loop-level-init : goal.loop-level-init
-loop-level-init c =
+pub bounds-ranks-top : goal.bounds-ranks-top
+bounds-ranks-top c =
+    let all = c.ranks-ranks.ensures.all in
+    let long = length-nodes c.args.points.now in
+    omega (arith, all, long, c.requires.point)
+
+pub loop-rank-init : goal.loop-rank-init
+loop-rank-init c =
     let ps = c.args.points.now in
     let p = c.args.top.0 in
     let rank = slice_index c.ranks-ranks.result.now p in
@@ -34,18 +41,18 @@ loop-level-init c =
 
 pub follow-requires-clause-descent : goal.follow-requires-clause-descent
 follow-requires-clause-descent c =
-    subst (IsDescent c.args.points.now c.args.top.0 c.loop-level.ways)
-    (ways_taken c.loop-level.levels c.pop.new.self c.in-Some.rank c.in-Some.level c.in-Some.ensures.some) c.loop-level.invariant.0
+    subst (IsDescent c.args.points.now c.args.top.0 c.loop-rank.ways)
+    (ways_taken c.loop-rank.levels c.pop.new.self c.in-Some.rank c.in-Some.level c.in-Some.ensures.some) c.loop-rank.invariant.0
 
 pub follow-requires-clause-levels : goal.follow-requires-clause-levels
-follow-requires-clause-levels c = subst (AreLevels c.ranks-ranks.result.now) c.in-Some.ensures.some c.loop-level.invariant.1
+follow-requires-clause-levels c = subst (AreLevels c.ranks-ranks.result.now) c.in-Some.ensures.some c.loop-rank.invariant.1
 
-pub loop-level-smaller : goal.loop-level-smaller
-loop-level-smaller c =
+pub loop-rank-smaller : goal.loop-rank-smaller
+loop-rank-smaller c =
     let taken = ap above_all c.in-Some.ensures.some in
     let last = above_last c.pop.new.self (c.in-Some.rank, c.in-Some.level) in
     let below = above_below c.in-Some.rank c.follow.new.levels c.in_ok-follow.ensures.below in
     omega (arith, taken, last, below)
 
 pub returns : goal.returns
-returns c = subst (λ (ls : List (ℕ × List Way)). IsDescent c.args.points.now c.args.top.0 c.loop-level.ways (ways_in ls)) c.in_default.ensures.none c.loop-level.invariant.0
+returns c = subst (λ (ls : List (ℕ × List Way)). IsDescent c.args.points.now c.args.top.0 c.loop-rank.ways (ways_in ls)) c.in_default.ensures.none c.loop-rank.invariant.0
