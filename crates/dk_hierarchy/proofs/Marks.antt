@@ -431,9 +431,6 @@ module _ (ps : List Point) (free : has_cycle (nodes ps) ≡ false) (engines : Li
   one-less : to_do (record { marks = marks; waiting = rest }) < to_do (record { marks = marks; waiting = items })
   one-less = let long = ap length popped in omega (arith, long, length-append rest (p ∷ []))
 
-  pub less-left : to_do (record { marks = marks; waiting = rest }) < to_do (record { marks = marks; waiting = items })
-  less-left = one-less
-
   module _ (row : List Edge) (at : row ≡ edges_from (nodes ps) p) (from : AreFrom (length ps) p row) where
     pub row-below : ParentsBelow (length marks) row
     row-below = parents-below (length ps) p row (length marks) from going.0

@@ -1,4 +1,4 @@
-use Rattle.std.proofs.Common.{◌≡◌, ◌∙◌, ◌<◌, ℕ, Bool, List, ap, arith, false, length, slice_index_or, subst, sym, true}
+use Rattle.std.proofs.Common.{◌≡◌, ◌∙◌, ◌<◌, ℕ, Bool, List, ap, arith, false, length, slice_index_or, subst, sym}
 use Rattle.std.proofs.lemmas.List.{nil_from_length}
 use Rattle.dk_graph.proofs.Places.{get_or-any, whole}
 use Rattle.dk_hierarchy.proofs.Marks.{IsGoing, ended, going-first, going-left, going-on, less-on, parents-below, point-within, to_do}
