@@ -51,7 +51,8 @@ IsReached es d = (q : ℕ) → d q ≤ height es (d q) q
 abbrev pub IsLow : ℕ → List ℕ → Type 0
 IsLow limit ds = (q : ℕ) → q < length ds → slice_index ds q < limit
 
--- Ranks that are to rise: that of a point that waits may be no less than a parent's. None is more above the first one than a path has edges.
+-- Ranks that are to rise: that of a point that waits may be no less than a parent's. None is more above the first one than a path has
+-- edges.
 pub record IsRising (n : ℕ) (es : List Edge) (s : Raising) : Type 0 where
   pub settled : (e : Edge) → Contains es e → IsSettled s e.child.0 e.parent.0
   pub reached : IsReached es (over s)

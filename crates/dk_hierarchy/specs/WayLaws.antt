@@ -48,7 +48,8 @@ DescentsGoOn =
     (ps : List Point) → has_cycle (nodes ps) ≡ false → (p : ℕ) (ways before after : List Way)
     → (way : Way) → All (λ (e : Edge). (e.child.0 < length ps) × (e.parent.0 ≡ way.point.0)) (edges_into (nodes ps) way.point.0)
     → IsDescent ps p ways (before ++ way ∷ after)
-    → IsDescent ps p (ways ++ way ∷ []) (fold (λ left e. with_way left (way_below ps way e)) (before ++ after) (edges_into (nodes ps) way.point.0))
+    → IsDescent ps p (ways ++ way ∷ [])
+    (fold (λ left e. with_way left (way_below ps way e)) (before ++ after) (edges_into (nodes ps) way.point.0))
 
 -- it ends where no way is to be followed: then the own samples that the ways bring tell the same as all samples of the point
 abbrev pub DescentsEnd : Type 0
