@@ -53,8 +53,7 @@ natural_of text = option_and_then in_u64 (numeral_of 10 text)
 -- the number that up to 18 decimal digits in front write, and what follows them
 unfoldable pub short_digits : List ℕ → Option (ℕ × List ℕ)
 short_digits bytes =
-    if nat_lt 0 (digits_len bytes) && nat_lt (digits_len bytes) 19
-    then Some (digits_value 10 (take (digits_len bytes) bytes), drop (digits_len bytes) bytes)
+    if nat_lt 0 (digits_len bytes) && nat_lt (digits_len bytes) 19 then Some (digits_value 10 (take (digits_len bytes) bytes), drop (digits_len bytes) bytes)
     else None
 
 -- the whole number that such digits with an optional minus (45) in front write, and what follows them

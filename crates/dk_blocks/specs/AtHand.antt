@@ -17,8 +17,7 @@ use Rattle.dk_blocks.specs.declared.reader.Stop.{Stop}
 -- a block of this first line is a sample record, and neither a comment nor a header line stands in front of it
 abbrev pub BeginsRecord : Kept → List ℕ → Type 0
 BeginsRecord kept first = (ignores : Bool) (h : History) → Stands kept h → (n : ℕ) (ls : List Line) (close : Option ℕ)
-    → effect_of ignores h (record { number = n; bytes = first } ∷ ls) close
-    ≡ after_sample ignores h (record { number = n; bytes = first }) ls close
+    → effect_of ignores h (record { number = n; bytes = first } ∷ ls) close ≡ after_sample ignores h (record { number = n; bytes = first }) ls close
 
 -- The bytes begin with a whole block that is a sample record, the first line of which has the number n; its values are of its variables.
 pub record IsAtHand (kept : Kept) (n : ℕ) (bytes : List ℕ) (w : Whole) : Type 0 where
@@ -31,8 +30,7 @@ pub record IsAtHand (kept : Kept) (n : ℕ) (bytes : List ℕ) (w : Whole) : Typ
 abbrev pub HandGives : Bool → History → Reading → Kept → Result (Option Found) Stop → Reading → Option (List ℕ) → Type 0
 HandGives ignores h r kept (Ok None) r' rest = ⊤
 HandGives ignores h r kept (Ok (Some found)) r' rest = IfSome (left_of r rest) (λ xs.
-    BlockGives ignores (effect_of ignores h) false r xs
-    (Ok (record { kept = kept; is_over = false; found = Some found })) r' (left_of r' rest))
+    BlockGives ignores (effect_of ignores h) false r xs (Ok (record { kept = kept; is_over = false; found = Some found })) r' (left_of r' rest))
 HandGives ignores h r kept (Err stop) r' rest = IfSome (left_of r rest) (λ xs.
     BlockGives ignores (effect_of ignores h) false r xs (Err stop) r' (left_of r' rest))
 

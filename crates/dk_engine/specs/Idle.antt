@@ -43,8 +43,7 @@ is_known ranges v holds = list_any (λ (r : Range). r.var.0 == v.0 && holds r) r
 abbrev pub is_near_number : ℤ → Bool
 is_near_number z = nat_le (unsigned_abs z) (2 ^ 30)
 
--- bounds of numbers that are no less than this one, that are no greater, that are near, or that are one alone, of which this is the
--- opposite
+-- bounds of numbers that are no less than this one, that are no greater, that are near, or that are one alone, of which this is the opposite
 abbrev pub is_from : ℤ → Range → Bool
 is_from least r = int_le least r.least
 
@@ -94,8 +93,7 @@ is_driven ranges driver first last v a b =
 abbrev pub is_driven_stretch : List Range → VarId → ℤ → ℤ → VarId → VarId → VarId → State → Bool
 is_driven_stretch ranges driver first last u v w (Span x1 y1 z1 x2 y2 z2) =
     is_driven ranges driver first last u x1 x2
-    && (is_driven ranges driver first last v y1 y2
-    && (is_driven ranges driver first last w z1 z2 && (is_above ranges driver first && is_below ranges driver last)))
+    && (is_driven ranges driver first last v y1 y2 && (is_driven ranges driver first last w z1 z2 && (is_above ranges driver first && is_below ranges driver last)))
 is_driven_stretch ranges driver first last u v w _ = false
 
 -- the plane of the points whose first two coordinates are one
@@ -191,8 +189,7 @@ is_told ranges rising n u v = (is_own n u v && is_numeric ranges u) || (n == 13 
 
 -- all facts are true of the sample
 abbrev pub meets : Watch → List Value → Bool
-meets watch sample =
-    are_within sample watch.ranges.items && (are_rising sample None watch.rising.items && are_so sample watch.compared.items)
+meets watch sample = are_within sample watch.ranges.items && (are_rising sample None watch.rising.items && are_so sample watch.compared.items)
 
 -- no such sample changes the slot
 abbrev pub IsIdle : Watch → Slot → Type 0

@@ -15,6 +15,5 @@ suited_vars role infos of = filter (λ v. suits role (slice_get infos v.0)) of
 abbrev pub all_roles : List Role
 all_roles =
     Any kind.Bool ∷ Any kind.Int ∷ Any kind.Hash ∷ Any kind.Str ∷ Any kind.BoolSeq ∷ Any kind.IntSeq ∷ Any kind.HashSeq ∷ Any kind.StrSeq
-    ∷ Base kind.Bool ∷ Base kind.Int ∷ Base kind.Hash ∷ Base kind.Str
-    ∷ Base kind.BoolSeq ∷ Base kind.IntSeq ∷ Base kind.HashSeq ∷ Base kind.StrSeq
+    ∷ Base kind.Bool ∷ Base kind.Int ∷ Base kind.Hash ∷ Base kind.Str ∷ Base kind.BoolSeq ∷ Base kind.IntSeq ∷ Base kind.HashSeq ∷ Base kind.StrSeq
     ∷ []

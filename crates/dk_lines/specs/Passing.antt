@@ -35,5 +35,4 @@ in_front (l ∷ ls) rest = Next l (in_front ls rest)
 -- The lines were read, whatever bytes follow them, and whether the file ends or is cut off behind these.
 abbrev pub PassesLines : Reading → List (List ℕ) → Reading → Type 0
 PassesLines old ls new = (is_ended : Bool) (ys : List ℕ)
-    → lines_left old is_ended (joined ls ++ ys)
-    ≡ in_front (numbered_lines (old.number + 1) (map without_cr ls)) (lines_left new is_ended ys)
+    → lines_left old is_ended (joined ls ++ ys) ≡ in_front (numbered_lines (old.number + 1) (map without_cr ls)) (lines_left new is_ended ys)

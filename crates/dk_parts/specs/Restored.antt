@@ -37,8 +37,7 @@ is_before p q = is_lt (slice_cmp bool_cmp p.present q.present)
 
 -- each pattern is before the next one
 abbrev pub Rise : List Pattern → Type 0
-Rise patterns =
-    (i : ℕ) (d : Pattern) → i + 1 < length patterns → is_before (slice_index_or patterns i d) (slice_index_or patterns (i + 1) d) ≡ true
+Rise patterns = (i : ℕ) (d : Pattern) → i + 1 < length patterns → is_before (slice_index_or patterns i d) (slice_index_or patterns (i + 1) d) ≡ true
 
 -- patterns of some samples each, over so many leaders, in the order in which they are saved
 pub record AreInOrder (count : ℕ) (patterns : List Pattern) : Type 0 where

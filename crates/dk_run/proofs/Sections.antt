@@ -1,6 +1,6 @@
 -- Sections of points that have no samples.
 use Rattle.std.specs.Prelude.{◌≡◌, ◌<◌, ℕ, Bool, true, false, not, List, [], if◌then◌else◌, length, slice_index_or, refl}
-use Rattle.std.proofs.Common.{◌∙◌, ap, sym}
+use Rattle.std.proofs.Common.{◌∙◌, ap, arith}
 use Rattle.std.proofs.lemmas.List.FromFn.{get_or-map-range_with_len}
 use Rattle.dk_base.specs.Pieces.{is_empty}
 use Rattle.dk_blocks.specs.History.{History}
@@ -32,4 +32,4 @@ no_section options selects h p none = by (selects (name_in_history h p))
 -- the mark of a point
 pub mark_at : (h : History) (marks : List Bool) (p : ℕ) (d : Bool) → marks ≡ have_samples h → p < length h.table → slice_index_or marks p d ≡ has_samples h p
 mark_at h marks p d is within =
-    ap (λ (ms : List Bool). slice_index_or ms p d) is ∙ get_or-map-range_with_len (has_samples_in h.table h.samples) 0 (length h.table) p p d within refl
+    ap (λ (ms : List Bool). slice_index_or ms p d) is ∙ get_or-map-range_with_len (has_samples_in h.table h.samples) 0 (length h.table) p p d within (omega arith)

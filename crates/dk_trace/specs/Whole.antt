@@ -81,8 +81,7 @@ pub record ValuesStand (vs : List VarDecl) (bytes : List ℕ) (values : List Val
   pub reads : (n : ℕ) (close : Option ℕ) → record_values vs (numbered_lines n lines) close ≡ Ok values
 
 -- the first lines are those of a record behind its first, and an empty one stands behind them
-pub record BodyStands (vs : List VarDecl) (bytes : List ℕ) (nonce : Option ℤ)
-    (values : List Value) (rest : List ℕ) (count : ℕ) : Type 0 where
+pub record BodyStands (vs : List VarDecl) (bytes : List ℕ) (nonce : Option ℤ) (values : List Value) (rest : List ℕ) (count : ℕ) : Type 0 where
   pub lines : List (List ℕ)
   pub cut : AreCut bytes lines (10 ∷ rest)
   pub many : count ≡ length lines
@@ -100,5 +99,4 @@ pub record StandsWhole (ps : List Point) (n : ℕ) (bytes : List ℕ) (w : Whole
   pub front_within : w.first_len ≤ length bytes
   pub many : w.count ≡ length rest + 2
   pub in_table : w.sample.point.0 < length ps
-  pub reads : sample_of ps (record { number = n; bytes = first }) (numbered_lines (n + 1) rest) (Some (n + 1 + length rest))
-      ≡ Ok (shown w.sample)
+  pub reads : sample_of ps (record { number = n; bytes = first }) (numbered_lines (n + 1) rest) (Some (n + 1 + length rest)) ≡ Ok (shown w.sample)

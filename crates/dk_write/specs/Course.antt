@@ -45,8 +45,8 @@ AreReadable ignores h line [] = ⊤
 AreReadable ignores h line (w ∷ ws) =
     IsReadable h w × IfOk (done ignores h line w) (λ t. AreReadable ignores t.history (line_behind line w) ws)
 
--- What a writer writes behind the header lines, where it has declared these points: declarations that their lines tell, and of declared
--- points records that theirs tell.
+-- What a writer writes behind the header lines, where it has declared these points: declarations that their lines tell, and of declared points
+-- records that theirs tell.
 abbrev pub AreWritten : List PointDecl → List Write → Type 0
 AreWritten ds [] = ⊤
 AreWritten ds (Begins ∷ ws) = ⊥

@@ -25,5 +25,4 @@ TracesAreRead =
 abbrev pub WrittenAreRead : Type 0
 WrittenAreRead =
     (ignores : Bool) (h : History) (ws : List Write) → awaits_word h.header ≡ false → AreWritten [] ws
-    → after_all ignores (effect_of ignores h) (groups_of (numbered 0 (lines_of (trace_text (Begins ∷ ws)))))
-    ≡ done_all ignores h 1 (Begins ∷ ws)
+    → after_all ignores (effect_of ignores h) (groups_of (numbered 0 (lines_of (trace_text (Begins ∷ ws))))) ≡ done_all ignores h 1 (Begins ∷ ws)

@@ -10,8 +10,8 @@ has_none byte text = list_all (λ b. not (b == byte)) text
 abbrev pub last_byte : List ℕ → ℕ
 last_byte text = slice_index text (length text - 1)
 
--- A text that stands as a line, or at the end of one: it has bytes, none of them LF (10), neither a blank nor a tab at an end, and no CR
--- (13) as the last.
+-- A text that stands as a line, or at the end of one: it has bytes, none of them LF (10), neither a blank nor a tab at an end, and no CR (13) as
+-- the last.
 unfoldable pub is_line : List ℕ → Bool
 is_line text =
     not (is_empty text)

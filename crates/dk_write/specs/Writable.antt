@@ -69,11 +69,9 @@ has_constant (Some k) true None = false
 has_constant (Some k) true (Some x) = not (is_missing x) && is_value_of (Some k) x
 
 abbrev pub is_told_var : List EdgeDecl → VarDecl → Bool
-is_told_var es v =
-    is_line (escaped v.name) && (has_constant v.kind v.constant_line v.constant && list_all (is_told_counterpart es) v.parents)
+is_told_var es v = is_line (escaped v.name) && (has_constant v.kind v.constant_line v.constant && list_all (is_told_counterpart es) v.parents)
 
--- A declaration that its lines tell: names are lines or words, no edge and no variable comes twice, and constants are values of their
--- kinds.
+-- A declaration that its lines tell: names are lines or words, no edge and no variable comes twice, and constants are values of their kinds.
 unfoldable pub can_declare : PointDecl → Bool
 can_declare d =
     is_line (escaped d.name) && ((none_twice is_known_edge [] d.edges && list_all is_told_edge d.edges)
