@@ -65,7 +65,8 @@ pub record AreAtHand (pair : Pair) (row : RowId) (hands : Hands) : Type 0 where
   pub first : map (λ slot. slot.now) hands.first.items ≡ slots_at_hand row pair.first.kept.slots
   pub second : map (λ slot. slot.now) hands.second.items ≡ slots_at_hand row pair.second.kept.slots
 
--- what is around the leader of v, by these slots at hand: those that are over it, and whether it is constant or one of them is over it alone
+-- what is around the leader of v, by these slots at hand: those that are over it, and whether it is constant or one of them is over it
+-- alone
 pub record AreAround (engine : Whole) (hand : List (Bor Slot)) (v : VarId) (around : Around) : Type 0 where
   pub engine_is : around.engine.now ≡ engine
   pub slots : around.slots.items ≡ filter (λ slot. has slot.now.leaders (leader_of engine.kept.leaders v)) hand

@@ -3,7 +3,7 @@ ghost use Rattle.std.specs.Prelude.{◌≡◌, ◌<◌, ◌++◌, ℕ, List, [],
 ghost use Rattle.std.specs.List.{enumerate_from};
 ghost use Rattle.std.specs.Option.{option_map_or};
 ghost use Rattle.dk_blocks.specs.History.{History};
-ghost use Rattle.dk_core.specs.Sections.{all_stats_of, report_of, section_of, stats_of};
+ghost use Rattle.dk_core.specs.Sections.{all_stats_of, has_samples, have_samples, report_of, section_of, stats_of};
 ghost use Rattle.dk_core.specs.Selecting.{SelectsBy};
 ghost use Rattle.dk_core.specs.Standing.{SessionStandsFor, blocks_of, points_of, select_of};
 ghost use Rattle.dk_run.specs.Commands.{is_selected, report_options};
@@ -47,21 +47,26 @@ pub(crate) fn write<S: Sinks>(sinks: &mut S, stream: Stream, text: &[u8]) -> Res
     }
 }
 
-// Writes the section of a point.
+// Writes the section of a point, where it has samples.
 fn tell_section<F: Fn(&[u8]) -> bool + Drop, S: Sinks>(
     alloc: Global,
     command: &Command,
     session: &Session<F>,
+    has: bool,
     p: u32,
     sinks: &mut S,
 ) -> Result<(), Halt>
     requires within { p < length (points_of session.now) }
+    requires has { (h : History) → SessionStandsFor session.now h → has ≡ has_samples h p }
     requires reports { ReportsBy command.now session.now }
     requires callable { F.IsAlwaysCallable (select_of session.now) }
     requires selects { SelectsBy (F.post (select_of session.now)) (is_selected command.now) }
     ensures { TellsOutcome (SessionStandsFor session.now) (λ h. section_of (report_options command.now) (is_selected command.now) h p) (S.written sinks.old) (S.written sinks.new) (S.faults sinks.old) (S.faults sinks.new) result }
 {
     let _command = command;
+    if !has {
+        return Ok(());
+    }
     let mut text = Text::new(alloc);
     match session.push_section(&mut text, PointId(p)) {
         Ok(_) => write(sinks, Stream::Report, text.as_slice()),
@@ -69,7 +74,32 @@ fn tell_section<F: Fn(&[u8]) -> bool + Drop, S: Sinks>(
     }
 }
 
-// Writes the sections of all points.
+// Writes the sections of all points, of which these have samples.
+fn tell_marked<F: Fn(&[u8]) -> bool + Drop, S: Sinks>(
+    alloc: Global,
+    command: &Command,
+    session: &Session<F>,
+    marks: &[bool],
+    sinks: &mut S,
+) -> Result<(), Halt>
+    requires long { length marks.now ≡ length (points_of session.now) }
+    requires marks { (h : History) → SessionStandsFor session.now h → marks.now ≡ have_samples h }
+    requires reports { ReportsBy command.now session.now }
+    requires callable { F.IsAlwaysCallable (select_of session.now) }
+    requires selects { SelectsBy (F.post (select_of session.now)) (is_selected command.now) }
+    ensures { TellsOutcome (SessionStandsFor session.now) (λ h. report_of (report_options command.now) (is_selected command.now) h) (S.written sinks.old) (S.written sinks.new) (S.faults sinks.old) (S.faults sinks.new) result }
+{
+    let points = session.points();
+    for p in 0..points.len() {
+        match tell_section(alloc, command, session, marks[p as usize], p, sinks) {
+            Ok(()) => {}
+            Err(halt) => return Err(halt),
+        }
+    }
+    Ok(())
+}
+
+// Writes the sections of all points. Which have samples is found for all at once, since a section goes down from its point.
 fn tell_sections<F: Fn(&[u8]) -> bool + Drop, S: Sinks>(
     alloc: Global,
     command: &Command,
@@ -81,14 +111,10 @@ fn tell_sections<F: Fn(&[u8]) -> bool + Drop, S: Sinks>(
     requires selects { SelectsBy (F.post (select_of session.now)) (is_selected command.now) }
     ensures { TellsOutcome (SessionStandsFor session.now) (λ h. report_of (report_options command.now) (is_selected command.now) h) (S.written sinks.old) (S.written sinks.new) (S.faults sinks.old) (S.faults sinks.new) result }
 {
-    let points = session.points();
-    for p in 0..points.len() {
-        match tell_section(alloc, command, session, p, sinks) {
-            Ok(()) => {}
-            Err(halt) => return Err(halt),
-        }
+    match session.have_samples() {
+        Ok(marks) => tell_marked(alloc, command, session, marks.as_slice(), sinks),
+        Err(_) => Err(Halt::NoMemory),
     }
-    Ok(())
 }
 
 // Writes the sizes of a point.

@@ -1,11 +1,18 @@
-use Rattle.std.proofs.Common.{◌≤◌, ◌<◌, ◌++◌, List, length, refl, subst, arith}
+use Rattle.std.proofs.Common.{◌≤◌, ◌<◌, ◌++◌, false, List, length, refl, subst, arith}
 use Rattle.dk_core.proofs.Taking.{reads_of}
 use Rattle.dk_core.specs.Sections.{section_of, report_of}
 use Rattle.dk_core.specs.Standing.{SessionStandsFor}
 use Rattle.dk_points.specs.Table.{Point}
 use Rattle.dk_run.specs.Commands.{is_selected, report_options}
+use Rattle.dk_run.proofs.Sections.{mark_at}
 use Rattle.dk_run.proofs.Writing.{cut_short, cut_then, told_then, texts_all, texts_behind, texts_more, texts_to, told_nothing, told_same}
-use Rattle.dk_run.proofs.reporting.tell_sections.Goals as goal
+use Rattle.dk_run.proofs.reporting.tell_marked.Goals as goal
+
+pub tell_section-requires-clause-has : goal.tell_section-requires-clause-has
+tell_section-requires-clause-has g c h stands =
+    let within : c.loop-p.p < length c.points-points.result.now = omega arith in
+    mark_at h c.args.marks.now c.loop-p.p false (c.requires.marks h stands)
+    (subst (λ (ps : List Point). c.loop-p.p < length ps) (c.points-points.ensures.table h (reads_of c.args.session.now.kept h stands)) within)
 
 pub loop-p-init : goal.loop-p-init
 loop-p-init g c = told_nothing (SessionStandsFor c.args.session.now) _ _ _ (λ h stands. refl)

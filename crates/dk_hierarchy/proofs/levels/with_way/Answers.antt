@@ -4,7 +4,7 @@ use Rattle.std.proofs.lemmas.List.{get_or_read, take_all}
 use Rattle.dk_hierarchy.proofs.Adding.{like_found, none_like, unlike_stays}
 use Rattle.dk_hierarchy.specs.Ways.{same_way}
 use Rattle.dk_hierarchy.specs.declared.way.Way.{Way}
-use Rattle.dk_hierarchy.proofs.depths.with_way.Goals as goal
+use Rattle.dk_hierarchy.proofs.levels.with_way.Goals as goal
 
 pub returns-then-same_way : goal.returns-then-same_way
 returns-then-same_way c =

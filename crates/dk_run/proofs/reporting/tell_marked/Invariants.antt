@@ -3,7 +3,7 @@ use Rattle.dk_core.specs.Standing.{SessionStandsFor}
 use Rattle.dk_run.specs.Commands.{is_selected, report_options}
 use Rattle.dk_run.specs.Telling.{ToldWhole}
 use Rattle.dk_run.proofs.Writing.{texts_to}
-use Rattle.dk_run.proofs.reporting.tell_sections.Given as goal
+use Rattle.dk_run.proofs.reporting.tell_marked.Given as goal
 
 abbrev pub invariant-loop-p : goal.invariant-loop-p
 invariant-loop-p g l =
