@@ -1,8 +1,8 @@
 -- A slot that stands at a place, and what it says of three leaders.
-use Rattle.std.specs.Prelude.{◌≡◌, ◌<◌, ◌==◌, ◌&&◌, ℕ, zero, suc, true, false, List, [], ◌∷◌, Some, if◌then◌else◌, length, nat_le, nat_lt, refl}
+use Rattle.std.specs.Prelude.{◌≡◌, ◌<◌, ◌-◌, ◌==◌, ◌&&◌, ℕ, zero, suc, true, false, List, [], ◌∷◌, Some, if◌then◌else◌, length, nat_le, nat_lt, refl}
 use Rattle.std.specs.List.{AllPairs}
 use Rattle.std.proofs.Common.{◌∙◌, ap, arith, get_or, inl, inr, subst, sym}
-use Rattle.std.proofs.lemmas.Bool.{and_parts, eqb-true, false_from_ne_true, nat_tests}
+use Rattle.std.proofs.lemmas.Bool.{and_parts, eqb-true, false_from_ne_true, leb-true, ltb-true}
 use Rattle.dk_base.specs.declared.kinds.VarId.{VarId}
 use Rattle.dk_engine.proofs.LevelFacts.{level_is, read_some}
 use Rattle.dk_engine.specs.Exact.{SlotBefore}
@@ -52,7 +52,7 @@ module _ (row : RowId) (vars : List VarId) where
 
 -- ---- three leaders in written order
 not_above : (m n : ℕ) → nat_le m n ≡ true → nat_lt n m ≡ false
-not_above m n e = grind (arith, nat_tests)
+not_above m n e = false_from_ne_true (nat_lt n m) (λ h. let above = ltb-true n m h in let below = leb-true m n e in omega (arith, above, below))
 
 module _ (a b c : VarId) where
   abbrev three : List VarId

@@ -27,7 +27,7 @@ loop-x-preserved c =
     let more = ap (λ ss. ss ++ Of c.args.w.leader x.leader) c.loop-x.invariant ∙ mapped_more (Of c.args.w.leader) (λ (y : Companion). y.leader) c.args.slots third i none (omega (arith, test)) in
     elim c.if-has_room.branch [
       | then-has_room+in_ok-slots k ↦
-          k.slots-is ∙ (k.in_ok-slots.ensures ∙ (ap (λ (y : Numbered). c.loop-x.slots ++ Of y.var k.numbered-2.result.var) k.numbered.ensures ∙ ap (λ (y : Numbered). c.loop-x.slots ++ Of c.args.w.leader y.var) k.numbered-2.ensures) ∙ more)
+          k.slots-is ∙ (k.in_ok-slots.ensures ∙ (ap (λ (y : Numbered). c.loop-x.slots ++ Of y.var k.numbered-then-has_room.result.var) k.numbered.ensures ∙ ap (λ (y : Numbered). c.loop-x.slots ++ Of c.args.w.leader y.var) k.numbered-then-has_room.ensures) ∙ more)
       | else-has_room k ↦
           (let out : Of c.args.w.leader x.leader ≡ [] =
           none_considered pair row (row_is pair.first.grammar row c.requires.row) c.requires.three c.requires.some v c.requires.v c.args.w x c.requires.w (c.requires.third i none test) pair.first.infos s.known.now c.args.operation c.requires.operation (sym c.has_room.ensures ∙ k.if-has_room.false) in
