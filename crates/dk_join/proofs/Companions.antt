@@ -163,13 +163,12 @@ module _ (pair : Pair) (row : RowId) (is : IsRow row) (three : arity_of row ≡ 
       → considered infos known (answer_of pair) row vars ≡ []
   none_considered infos known operation of none =
       let slots = considered infos known (answer_of pair) row vars in
-      elim (and_cases (is_written row vars) (may_stand w x && not (are_broken operation v.numbers w.numbers x.numbers)) none) as (λ _. slots ≡ []) [
-        | inl unwritten ↦ unwritten_out infos known (answer_of pair) row vars unwritten
-        | inr room ↦
-            broken_out infos known (answer_of pair) row vars (elim (and_cases (may_stand w x) (not (are_broken operation v.numbers w.numbers x.numbers)) room) as (λ _. answer_of pair row vars ≡ Broken) [
-              | inl apart ↦ joint_broken pair row three some v.var w x c d apart
-              | inr break ↦ numbers_broken operation of (not-false (are_broken operation v.numbers w.numbers x.numbers) break)
-            ])
+      elim (and_cases (may_stand w x) (is_written row vars && not (are_broken operation v.numbers w.numbers x.numbers)) none) as (λ _. slots ≡ []) [
+        | inl apart ↦ broken_out infos known (answer_of pair) row vars (joint_broken pair row three some v.var w x c d apart)
+        | inr rest ↦ elim (and_cases (is_written row vars) (not (are_broken operation v.numbers w.numbers x.numbers)) rest) as (λ _. slots ≡ []) [
+          | inl unwritten ↦ unwritten_out infos known (answer_of pair) row vars unwritten
+          | inr break ↦ broken_out infos known (answer_of pair) row vars (numbers_broken operation of (not-false (are_broken operation v.numbers w.numbers x.numbers) break))
+        ]
       ]
 
 -- ---- as the code tells it

@@ -98,8 +98,8 @@ may_stand w x = (w.by_first || x.by_first) && (w.by_second || x.by_second)
 -- and so the row may have a slot over the three, where they are in written order and the numbers don't break its relation
 abbrev pub has_room : RowId → Option Operation → Numbered → Companion → Companion → Bool
 has_room row operation v w x =
-    is_written row (v.var ∷ w.leader ∷ x.leader ∷ [])
-    && (may_stand w x && not (are_broken operation v.numbers w.numbers x.numbers))
+    may_stand w x
+    && (is_written row (v.var ∷ w.leader ∷ x.leader ∷ []) && not (are_broken operation v.numbers w.numbers x.numbers))
 
 -- ---- two lists of samples
 pub record HaveSamples (pair : Pair) : Type 0 where

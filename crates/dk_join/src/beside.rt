@@ -276,7 +276,7 @@ fn are_written(row: RowId, v: VarId, w: VarId, x: VarId) -> bool
     }
 }
 
-/// Whether the row may have a slot over three leaders, by their order, by what each engine keeps around the first, and by their numbers,
+/// Whether the row may have a slot over three leaders, by what each engine keeps around the first, by their order, and by their numbers,
 /// where the row says the results of an operation.
 pub(crate) fn has_room(
     row: RowId,
@@ -288,6 +288,7 @@ pub(crate) fn has_room(
     requires { IsRow row }
     ensures { result ≡ has_room row operation v w x }
 {
-    are_written(row, v.var, w.leader, x.leader)
-        && (may_stand(w, x) && !are_broken(operation, v.numbers, w.numbers, x.numbers))
+    may_stand(w, x)
+        && (are_written(row, v.var, w.leader, x.leader)
+            && !are_broken(operation, v.numbers, w.numbers, x.numbers))
 }
