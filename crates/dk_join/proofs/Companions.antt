@@ -1,9 +1,10 @@
 -- Leaders that have no slot, since by what one engine keeps the first may stand beside neither of the others.
-use Rattle.std.specs.Prelude.{◌≡◌, ◌<◌, ◌&&◌, ◌||◌, Bool, true, false, not, IfSome, IsTrue, List, None, Option, Some, [], ◌∷◌, cond, filter, is_some, map, refl}
+use Rattle.std.specs.Prelude.{◌≡◌, ◌<◌, ◌&&◌, ◌||◌, Bool, true, false, not, IfSome, IsTrue, All, List, None, Option, Some, [], ◌∷◌, ◌++◌, cond, filter, flat_map, if◌then◌else◌, is_some, map, refl}
+use Rattle.std.proofs.lemmas.List.Elements.{All-head, All-tail}
 use Rattle.std.specs.Borrow.{Bor}
 use Rattle.std.specs.List.{list_any}
 use Rattle.std.proofs.Common.{◌∙◌, ap, arith, inl, inr, sym}
-use Rattle.std.proofs.lemmas.Bool.{and_cases, false_from_ne_true, not-false, or_cases, or_parts, true≢false}
+use Rattle.std.proofs.lemmas.Bool.{and_cases, cases_Bool, false_from_ne_true, not-false, or_cases, or_parts, true≢false}
 use Rattle.dk_base.specs.declared.kinds.VarId.{VarId}
 use Rattle.dk_base.specs.declared.kinds.VarInfo.{VarInfo}
 use Rattle.dk_constants.specs.Known.{Entries, known_at}
@@ -41,7 +42,7 @@ use Rattle.dk_template.specs.declared.templates.StateForm.TheVariants as form
 use Rattle.dk_join.proofs.Apart.{three_broken}
 use Rattle.dk_join.proofs.Breaking.{broken_by_numbers}
 use Rattle.dk_join.proofs.Lists.{any_lent, filter_lent}
-use Rattle.dk_join.specs.Beside.{AreAround, HaveSamples, IsCompanion, LeavesNoneOut, has_room, is_alone, is_beside, is_free, may_stand, slots_around, slots_at_hand, stands_beside}
+use Rattle.dk_join.specs.Beside.{AreAround, HaveSamples, IsCompanion, LeavesNoneOut, has_room, is_alone, is_beside, is_free, is_near, may_stand, slots_around, slots_at_hand, stands_beside}
 use Rattle.dk_join.specs.Joining.{Pair, answer_of, read_joined}
 use Rattle.dk_join.specs.Numbers.{are_broken, break_operation, number_of, numbers_of}
 use Rattle.dk_join.specs.declared.beside.Around.{Around}
@@ -169,6 +170,35 @@ module _ (pair : Pair) (row : RowId) (is : IsRow row) (three : arity_of row ≡ 
           | inl unwritten ↦ unwritten_out infos known (answer_of pair) row vars unwritten
           | inr break ↦ broken_out infos known (answer_of pair) row vars (numbers_broken operation of (not-false (are_broken operation v.numbers w.numbers x.numbers) break))
         ]
+      ]
+
+-- ---- companions that are near
+far : (a b p q : Bool) → (p || q) ≡ false → (a && b) ≡ false → ((a || p) && (b || q)) ≡ false
+far true true p q h e = absurd (true≢false e)
+far true false p q h e = (or_parts p q h).1
+far false b p q h e = ap (λ k. k && (b || q)) (or_parts p q h).0
+
+module _ (pair : Pair) (row : RowId) (three : arity_of row ≡ 3) (some : HaveSamples pair) (v : VarId) (w : Companion) (c : IsCompanion pair row v w) (apart : (w.by_first && w.by_second) ≡ false)
+    (infos : List VarInfo) (known : Entries) where
+  abbrev Of : VarId → List Slot
+  Of z = considered infos known (answer_of pair) row (v ∷ w.leader ∷ z ∷ [])
+
+  abbrev leaders : List Companion → List VarId
+  leaders xs = map (λ x. x.leader) xs
+
+  -- those that aren't give no slot
+  pub near_are_all : (xs : List Companion) → All (IsCompanion pair row v) xs → flat_map Of (leaders (filter is_near xs)) ≡ flat_map Of (leaders xs)
+  near_are_all [] all = refl
+  near_are_all (x ∷ xs) all =
+      let d = All-head (IsCompanion pair row v) x xs all in
+      let rest = near_are_all xs (All-tail (IsCompanion pair row v) x xs all) in
+      let with : Bool → List Slot = λ b. flat_map Of (leaders (if b then x ∷ filter is_near xs else filter is_near xs)) in
+      elim (cases_Bool (is_near x)) as (λ _. flat_map Of (leaders (filter is_near (x ∷ xs))) ≡ flat_map Of (leaders (x ∷ xs))) [
+        | inl near ↦ ap with near ∙ ap (λ ss. Of x.leader ++ ss) rest
+        | inr away ↦
+            (let out : Of x.leader ≡ [] =
+            broken_out infos known (answer_of pair) row (v ∷ w.leader ∷ x.leader ∷ []) (joint_broken pair row three some v w x c d (far w.by_first w.by_second x.by_first x.by_second away apart)) in
+            ap with away ∙ (rest ∙ ap (λ ss. ss ++ flat_map Of (leaders xs)) (sym out)))
       ]
 
 -- ---- as the code tells it

@@ -91,6 +91,10 @@ pub record IsCompanion (pair : Pair) (row : RowId) (v : VarId) (w : Companion) :
   pub by_first : IsTrue (stands_beside pair.first.kept row v w.leader) → IsTrue w.by_first
   pub by_second : IsTrue (stands_beside pair.second.kept row v w.leader) → IsTrue w.by_second
 
+-- it may stand beside the leader by what is kept of one of them
+abbrev pub is_near : Companion → Bool
+is_near w = w.by_first || w.by_second
+
 -- by what is kept of each, one of two leaders may stand beside a third
 abbrev pub may_stand : Companion → Companion → Bool
 may_stand w x = (w.by_first || x.by_first) && (w.by_second || x.by_second)

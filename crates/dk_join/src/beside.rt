@@ -1,9 +1,9 @@
 // Which leaders may stand beside another in a slot of three, by what two engines keep.
-ghost use Rattle.std.specs.Prelude.{◌≡◌, ◌<◌, ◌==◌, ◌||◌, ◌∷◌, [], All, IfOk, filter, is_some, length, map};
+ghost use Rattle.std.specs.Prelude.{◌≡◌, ◌<◌, ◌==◌, ◌&&◌, ◌||◌, ◌∷◌, [], All, IfOk, filter, is_some, length, map};
 ghost use Rattle.std.specs.List.{list_any};
 ghost use Rattle.dk_base.specs.declared.kinds.VarId.{VarId};
 ghost use Rattle.dk_constants.specs.Known.{known_at};
-ghost use Rattle.dk_join.specs.Beside.{AreAround, AreAtHand, LeavesNoneOut, has_room, is_alone, is_at_hand, is_beside, may_meet, may_stand};
+ghost use Rattle.dk_join.specs.Beside.{AreAround, AreAtHand, LeavesNoneOut, has_room, is_alone, is_at_hand, is_beside, is_near, may_meet, may_stand};
 ghost use Rattle.dk_join.specs.Numbers.{number_of};
 ghost use Rattle.dk_presence.specs.Patterns.{has};
 ghost use Rattle.dk_template.specs.Admitted.{is_written};
@@ -255,6 +255,33 @@ pub(crate) fn companions(
         })?;
     }
     Ok(list)
+}
+
+// Whether the leader may stand beside the other by what one of the engines keeps.
+fn is_near(w: Companion) -> bool
+    ensures { result ≡ is_near w }
+{
+    w.by_first || w.by_second
+}
+
+/// Those of the companions that are.
+pub(crate) fn near(alloc: Global, beside: &[Companion]) -> Result<Vec<Companion>, NoMemory>
+    ensures { IfOk result (λ list. list.items ≡ filter is_near beside.now) }
+{
+    let mut list = Vec::new(alloc);
+    for w in beside {
+        if is_near(*w) {
+            list.push(*w)?;
+        }
+    }
+    Ok(list)
+}
+
+/// Whether the leader may stand beside the other by what each engine keeps, whichever leader is the third.
+pub(crate) fn is_beside_both(w: Companion) -> bool
+    ensures { result ≡ (w.by_first && w.by_second) }
+{
+    w.by_first && w.by_second
 }
 
 // Whether by what each engine keeps one of two leaders may stand beside a third.

@@ -1,10 +1,10 @@
 // The slots that both engines give, over the tuples of leaders. A tuple of three is passed over where what an engine keeps leaves no
 // room for it.
-ghost use Rattle.std.specs.Prelude.{◌≡◌, ◌≤◌, ◌++◌, [], ◌∷◌, false, All, IfOk, IfSome, IsTrue, length, map};
+ghost use Rattle.std.specs.Prelude.{◌≡◌, ◌≤◌, ◌++◌, [], ◌∷◌, false, All, IfOk, IfSome, IsTrue, filter, length, map};
 ghost use Rattle.dk_engine.specs.Feeding.{slots_of, slots_of_row};
 ghost use Rattle.dk_engine.specs.Suited.{suited_vars};
 ghost use Rattle.dk_engine.specs.Sweeps.{behind, considered, firsts, pairs, seconds, thirds, triples};
-ghost use Rattle.dk_join.specs.Beside.{AreAtHand, AreLed, HaveSamples, IsCompanion};
+ghost use Rattle.dk_join.specs.Beside.{AreAtHand, AreLed, HaveSamples, IsCompanion, is_near};
 ghost use Rattle.dk_join.specs.Joining.{answer_of};
 ghost use Rattle.dk_join.specs.Numbers.{numbers_of};
 ghost use Rattle.dk_join.specs.Suited.{suited_to_some, suits_some};
@@ -13,7 +13,7 @@ ghost use Rattle.dk_template.specs.Templates.{IsRowOf, arity_of};
 ghost use Rattle.dk_ternary.specs.Rows.{operation_row};
 ghost use Rattle.dk_engine.specs.Parts.{all_known};
 
-use crate::beside::{Around, Companion, Hands, companions, has_room};
+use crate::beside::{Around, Companion, Hands, companions, has_room, is_beside_both, near};
 use crate::both::{Both, Places};
 use crate::constants::are_known;
 use crate::numbers::{Numbered, Numbers, operation_of};
@@ -182,6 +182,36 @@ impl<'a> Sweep<'a> {
         Ok(slots)
     }
 
+    // The same of all companions of the first leader. Where by an engine the second leader may not stand beside it, only such a third one
+    // is looked at as may stand beside it by one of the engines.
+    fn thirds_beside(
+        &self,
+        places: &mut Places,
+        row: RowId,
+        operation: Option<Operation>,
+        v: Numbered,
+        w: Companion,
+        beside: &[Companion],
+        near: &[Companion],
+        slots: List<Slot>,
+    ) -> Result<List<Slot>, NoMemory>
+        requires some { HaveSamples self.now.both.now }
+        requires row { IsRowOf self.now.both.now.first.grammar row }
+        requires three { arity_of row ≡ 3 }
+        requires operation { IfSome operation (λ o. operation_row o ≡ row) }
+        requires v { v.numbers ≡ numbers_of self.now.both.now v.var }
+        requires w { IsCompanion self.now.both.now row v.var w }
+        requires beside { All (IsCompanion self.now.both.now row v.var) beside.now }
+        requires near { near.now ≡ filter is_near beside.now }
+        ensures { IfOk result (λ more. more ≡ slots ++ thirds self.now.both.now.first.infos self.now.known.now (answer_of self.now.both.now) row v.var w.leader (map (λ x. x.leader) beside.now)) }
+    {
+        if is_beside_both(w) {
+            self.thirds(places, row, operation, v, w, beside, slots)
+        } else {
+            self.thirds(places, row, operation, v, w, near, slots)
+        }
+    }
+
     // Those of two leaders, one of each list.
     fn pairs(
         &self,
@@ -243,9 +273,19 @@ impl<'a> Sweep<'a> {
             var: v,
             numbers: Numbers::of(self.both.first(), self.both.second(), v),
         };
+        let close = near(self.alloc, beside.as_slice())?;
         let mut slots = slots;
         for w in &beside {
-            slots = self.thirds(places, row, operation, first, *w, beside.as_slice(), slots)?;
+            slots = self.thirds_beside(
+                places,
+                row,
+                operation,
+                first,
+                *w,
+                beside.as_slice(),
+                close.as_slice(),
+                slots,
+            )?;
         }
         Ok(slots)
     }
