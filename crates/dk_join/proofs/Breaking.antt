@@ -1,5 +1,5 @@
 -- A row with a relation is Broken where three leaders are constant and their numbers break the relation.
-use Rattle.std.specs.Prelude.{◌≡◌, ◌<◌, ◌+◌, ◌==◌, ◌||◌, ◌&&◌, ℕ, zero, suc, ℤ, Bool, true, false, not, All, IsSome, IsTrue, List, [], ◌∷◌, Option, None, Some, if◌then◌else◌, is_some, length, map, refl, slice_get, slice_index_or, unwrap_or}
+use Rattle.std.specs.Prelude.{◌≡◌, ◌<◌, ◌+◌, ◌==◌, ◌||◌, ◌&&◌, ℕ, zero, suc, ℤ, Bool, true, false, not, All, IsTrue, List, [], ◌∷◌, Option, None, Some, if◌then◌else◌, is_some, length, map, refl, slice_get, slice_index_or, unwrap_or}
 use Rattle.std.specs.List.{list_all, range_with_len}
 use Rattle.std.proofs.Common.{◌∙◌, ap, arith, subst, sym}
 use Rattle.std.proofs.lemmas.Bool.{and_parts, false≢true, not-true}
@@ -33,10 +33,9 @@ use Rattle.dk_suppress.specs.Rules.{is_suppressed}
 use Rattle.dk_template.proofs.WrittenTuples.{written_all}
 use Rattle.dk_template.specs.Exchange.{turned_state, written_order}
 use Rattle.dk_template.specs.Rows.{IsTuple}
-use Rattle.dk_template.specs.Templates.{IsRow, arity_of, form_of, is_plain, kind_of, role_kinds, roles_of, rows, template_of}
+use Rattle.dk_template.specs.Templates.{IsRow, arity_of, form_of, kind_of, role_kinds, roles_of, rows, template_of}
 use Rattle.dk_template.specs.declared.grammar.RowId.{RowId}
 use Rattle.dk_template.specs.declared.templates.Role.{Role}
-use Rattle.dk_template.specs.declared.templates.StateForm.{StateForm}
 use Rattle.dk_template.specs.declared.templates.StateForm.TheVariants as form
 use Rattle.dk_template.specs.declared.templates.Takes.{Takes}
 use Rattle.dk_template.specs.declared.templates.Takes.TheVariants.{One, Two, Three}

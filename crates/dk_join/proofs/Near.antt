@@ -16,7 +16,7 @@ use Rattle.dk_presence.proofs.Sameness.{same_vars-true}
 use Rattle.dk_presence.specs.Patterns.{counted_by, same_vars}
 use Rattle.dk_suppress.specs.Rules.{is_suppressed}
 use Rattle.dk_template.specs.Admitted.{ascend, exchangeable, is_written}
-use Rattle.dk_template.specs.Exchange.{arrange_tuple, descends, disarrange_state, exchanged_back, exchanged_state, order_tuple, turned_state, written_order}
+use Rattle.dk_template.specs.Exchange.{arrange_tuple, disarrange_state, exchanged_back, exchanged_state, order_tuple, turned_state}
 use Rattle.dk_template.specs.Templates.{template_of}
 use Rattle.dk_template.specs.declared.exchange.Exchange.TheVariants.{First, Last}
 use Rattle.dk_template.specs.declared.grammar.RowId.{RowId}

@@ -12,7 +12,6 @@ use Rattle.dk_template.specs.Templates.{form_of}
 use Rattle.dk_template.specs.declared.templates.Template.{Template}
 use Rattle.dk_join.proofs.Answering.{texts_may_want}
 use Rattle.dk_join.specs.Joining.{Pair, read_joined}
-use Rattle.dk_join.specs.declared.threes.Told.{Told}
 use Rattle.dk_join.proofs.both.Both.state_of_three.Goals as goal
 use Rattle.dk_join.proofs.both.Both.state_of_three.Goals.{in-Broken, in_default}
 

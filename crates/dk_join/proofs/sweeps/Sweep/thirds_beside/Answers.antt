@@ -1,8 +1,7 @@
-use Rattle.std.specs.Prelude.{◌≡◌, ◌++◌, All, List, filter, map}
+use Rattle.std.specs.Prelude.{◌≡◌, ◌++◌, All, List, map}
 use Rattle.std.proofs.Common.{◌∙◌, ap, subst, sym}
 use Rattle.std.proofs.lemmas.List.Elements.{All-filter}
 use Rattle.std.proofs.lemmas.Result.{IfOk-weaker}
-use Rattle.dk_base.specs.declared.kinds.VarId.{VarId}
 use Rattle.dk_engine.specs.Sweeps.{thirds}
 use Rattle.dk_engine.specs.declared.slot.Slot.{Slot}
 use Rattle.dk_join.proofs.Companions.{near_are_all}
