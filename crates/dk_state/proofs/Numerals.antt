@@ -1,5 +1,5 @@
 -- Numbers as fields.
-use Rattle.std.specs.Prelude.{◌<◌, ◌^◌, ◌∷◌, ◌==◌, [], ◌≡◌, ℕ, ℤ, Bool, pos, negsuc, suc, false, true, List, None, Option, Some, if◌then◌else◌, length, option_and_then, unsigned_abs, refl}
+use Rattle.std.specs.Prelude.{◌<◌, ◌^◌, ◌∷◌, ◌==◌, [], ◌≡◌, ℕ, ℤ, Bool, pos, negsuc, suc, false, true, List, None, Some, if◌then◌else◌, length, option_and_then, unsigned_abs, refl}
 use Rattle.std.specs.Char.{digit_value, is_digit}
 use Rattle.std.specs.List.{list_all}
 use Rattle.std.specs.Fmt.{decimal, signed_decimal}

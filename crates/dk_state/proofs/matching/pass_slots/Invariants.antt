@@ -1,4 +1,4 @@
-use Rattle.std.proofs.Common.{◌≡◌, ℕ, length}
+use Rattle.std.proofs.Common.{◌≡◌, length}
 use Rattle.std.specs.List.{flat_map}
 use Rattle.dk_state.specs.Kept.{slot_line}
 use Rattle.dk_state.specs.Matching.{left_behind}
