@@ -7,45 +7,18 @@ ghost use Rattle.dk_core.specs.Sections.{all_stats_of, report_of, section_of, st
 ghost use Rattle.dk_core.specs.Selecting.{SelectsBy};
 ghost use Rattle.dk_core.specs.Standing.{SessionStandsFor, blocks_of, points_of, select_of};
 ghost use Rattle.dk_run.specs.Commands.{is_selected, report_options};
-ghost use Rattle.dk_run.specs.Ending.{status_of};
 ghost use Rattle.dk_print.specs.Sections.{after_blocks_line as blocks_text, end_line as end_text};
+ghost use Rattle.dk_program.specs.Telling.{WritesText};
 ghost use Rattle.dk_run.specs.Reports.{is_due, whole_report};
-ghost use Rattle.dk_run.specs.Telling.{ReportsBy, StateTells, TellsOutcome, WritesText};
+ghost use Rattle.dk_run.specs.Telling.{ReportsBy, StateTells, TellsOutcome};
 
 use crate::messages::{after_blocks_line, end_line};
 use dk_base::{PointId, Text};
 use dk_core::Session;
-use dk_events::Ended;
-use dk_io::{Failed, Sinks, Stream, write_all};
+use dk_io::{Sinks, Stream};
+use dk_program::{Halt, write};
 use dk_words::Command;
 use std::alloc::Global;
-
-/// Why a text is not written whole.
-#[derive(Clone, Copy, Debug, PartialEq, Eq)]
-pub(crate) enum Halt {
-    Write,
-    NoMemory,
-}
-
-/// The status of a run that halts so.
-pub(crate) fn status_of(halt: Halt) -> Ended
-    ensures { result ≡ status_of halt }
-{
-    match halt {
-        Halt::Write => Ended::Write,
-        Halt::NoMemory => Ended::NoMemory,
-    }
-}
-
-/// Writes a text.
-pub(crate) fn write<S: Sinks>(sinks: &mut S, stream: Stream, text: &[u8]) -> Result<(), Halt>
-    ensures { WritesText stream text.now (S.written sinks.old) (S.written sinks.new) (S.faults sinks.old) (S.faults sinks.new) result }
-{
-    match write_all(sinks, stream, text) {
-        Ok(()) => Ok(()),
-        Err(Failed) => Err(Halt::Write),
-    }
-}
 
 // Writes the section of a point.
 fn tell_section<F: Fn(&[u8]) -> bool + Drop, S: Sinks>(
