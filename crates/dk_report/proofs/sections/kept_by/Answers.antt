@@ -26,12 +26,12 @@ use Rattle.dk_report.specs.Keeping.{keeps}
 use Rattle.dk_report.specs.Parents.{IsParentBy}
 use Rattle.dk_report.specs.Reports.{parents_of}
 use Rattle.dk_report.specs.declared.parents.MergedParent.{MergedParent}
-use Rattle.dk_report.proofs.sections.kept_instances.Goals as goal
+use Rattle.dk_report.proofs.sections.kept_by.Goals as goal
 
 pub of-requires-clause-small : goal.of-requires-clause-small
 of-requires-clause-small c =
-    let joint = c.in_ok-here.here in
-    let few = (c.requires.engines.variables c.args.p.0 joint.here c.in_ok-here.ensures.here).1.few in
+    let joint = c.args.here.now in
+    let few = (c.requires.engines.variables c.args.p.0 joint.here c.requires.here).1.few in
     let same = ap (λ (vs : List VarInfo). length vs) c.vars.ensures in
     omega (arith, few, same)
 
@@ -39,20 +39,20 @@ pub of-requires-clause-parents : goal.of-requires-clause-parents
 of-requires-clause-parents c =
     let ps = c.args.points.now in
     let es = c.args.engines.now in
-    let joint : Joint = c.in_ok-here.here in
+    let joint : Joint = c.args.here.now in
     let by = subst (λ (qs : List MergedParent). AllZip (IsParentBy ps es) qs (edges_from (nodes ps) c.args.p.0)) (sym c.as_slice.ensures.value) c.in_ok-parents.ensures in
     All-same (λ (view : ParentView Joint). length view.vars.now < 2 ^ 32) c.as_slice-2.result.now c.in_ok-views.views.items c.as_slice-2.ensures.value
-    (small_views ps es c.requires.engines c.args.p.0 joint c.in_ok-here.ensures.here c.in_ok-here.ensures.stands c.in_ok-views.views.items c.as_slice.result.now c.in_ok-views.ensures by)
+    (small_views ps es c.requires.engines c.args.p.0 joint c.requires.here c.requires.stands c.in_ok-views.views.items c.as_slice.result.now c.in_ok-views.ensures by)
 
 pub list_candidates-requires-clause-asked : goal.list_candidates-requires-clause-asked
 list_candidates-requires-clause-asked c =
     let ps = c.args.points.now in
     let es = c.args.engines.now in
     let p = c.args.p.0 in
-    let joint : Joint = c.in_ok-here.here in
+    let joint : Joint = c.args.here.now in
     let by = subst (λ (qs : List MergedParent). AllZip (IsParentBy ps es) qs (edges_from (nodes ps) p)) (sym c.as_slice.ensures.value) c.in_ok-parents.ensures in
     let got = engine_got ps es c.requires.engines p c.index-engines-p.result c.requires.point c.index-engines-p.is in
-    let same : c.index-engines-p.result ≡ joint.here = some-injective (sym got ∙ c.in_ok-here.ensures.here) in
+    let same : c.index-engines-p.result ≡ joint.here = some-injective (sym got ∙ c.requires.here) in
     let slices : c.as_slice-2.result.now ≡ c.as_slice-3.result.now = c.as_slice-2.ensures.value ∙ sym c.as_slice-3.ensures.value in
     let told_is = λ (vs : List VarInfo). answers_by vs (merged_state joint) (merged_count joint) (merged_agree joint) in
     record {
@@ -60,7 +60,7 @@ list_candidates-requires-clause-asked c =
       parents =
           All-same (λ (view : ParentView Joint). (view.answers.now.here.grammar ≡ joint.here.grammar) × IsViewOf view.answers.now.here.infos joint.here.infos (parent_of_view view))
           c.as_slice-3.result.now c.in_ok-views.views.items c.as_slice-3.ensures.value
-          (views_can_show ps es c.requires.engines p joint c.in_ok-here.ensures.here c.in_ok-here.ensures.stands c.in_ok-views.views.items c.as_slice.result.now c.in_ok-views.ensures by);
+          (views_can_show ps es c.requires.engines p joint c.requires.here c.requires.stands c.in_ok-views.views.items c.as_slice.result.now c.in_ok-views.ensures by);
       found =
           c.in_ok-found.ensures
           ∙ (ap (λ (vs : List VarInfo). found_of (told_is vs) (map parent_of_view c.as_slice-2.result.now)) c.vars.ensures
@@ -69,13 +69,13 @@ list_candidates-requires-clause-asked c =
 
 pub list_candidates-requires-clause-few : goal.list_candidates-requires-clause-few
 list_candidates-requires-clause-few c =
-    let joint : Joint = c.in_ok-here.here in
-    (c.requires.engines.variables c.args.p.0 joint.here c.in_ok-here.ensures.here).1.few
+    let joint : Joint = c.args.here.now in
+    (c.requires.engines.variables c.args.p.0 joint.here c.requires.here).1.few
 
 pub list_candidates-requires-clause-paths : goal.list_candidates-requires-clause-paths
 list_candidates-requires-clause-paths c =
-    let joint : Joint = c.in_ok-here.here in
-    All-weaker (IsWayDown c.args.points.now c.args.p.0) (λ (way : Way). 0 < way.paths) (λ way is. is.some) joint.ways c.in_ok-here.ensures.ways.done
+    let joint : Joint = c.args.here.now in
+    All-weaker (IsWayDown c.args.points.now c.args.p.0) (λ (way : Way). 0 < way.paths) (λ way is. is.some) joint.ways c.requires.ways.done
 
 pub returns : goal.returns
 returns c =
@@ -83,14 +83,14 @@ returns c =
     let es = c.args.engines.now in
     let p = c.args.p.0 in
     let options = c.args.options.now in
-    let joint : Joint = c.in_ok-here.here in
+    let joint : Joint = c.args.here.now in
     let by = subst (λ (qs : List MergedParent). AllZip (IsParentBy ps es) qs (edges_from (nodes ps) p)) (sym c.as_slice.ensures.value) c.in_ok-parents.ensures in
     let lists = λ (views : List (ParentView Joint)). candidates_kept (keeps options) (candidates_of joint.here.grammar options.least (answers_of_joint joint) (map parent_of_view views)) in
     if_ok c.list_candidates.result
     (λ list. (samples : ℕ → List (List Value)) (parents : List Parent) → EnginesStandFor es samples → AllZip (ShowTheSame joint.here.grammar joint.here.infos) (map parent_of_view c.as_slice-3.result.now) parents → list ≡ lists c.as_slice-3.result.now) _
     (λ list is own stand.
-    let shows = views_show ps es c.requires.engines p joint c.in_ok-here.ensures.here c.in_ok-here.ensures.stands c.in_ok-views.views.items c.as_slice.result.now c.in_ok-views.ensures by own stand in
+    let shows = views_show ps es c.requires.engines p joint c.requires.here c.requires.stands c.in_ok-views.views.items c.as_slice.result.now c.in_ok-views.ensures by own stand in
     let show = subst (λ (views : List (ParentView Joint)). AllZip (ShowTheSame joint.here.grammar joint.here.infos) (map parent_of_view views) (parents_of ps own p)) (sym c.as_slice-3.ensures.value) shows in
-    reported ps es c.requires.engines p joint c.in_ok-here.ensures.here c.in_ok-here.ensures.stands c.in_ok-views.views.items c.as_slice.result.now c.in_ok-views.ensures by options list
+    reported ps es c.requires.engines p joint c.requires.here c.requires.stands c.in_ok-views.views.items c.as_slice.result.now c.in_ok-views.ensures by options list
     (is (own_samples_of ps own) (parents_of ps own p) stand show ∙ ap lists c.as_slice-3.ensures.value) own stand)
     c.list_candidates.ensures.kept
