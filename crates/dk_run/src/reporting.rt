@@ -64,10 +64,7 @@ fn tell_marked<F: Fn(&[u8]) -> bool + Drop, S: Sinks>(
 {
     let points = session.points();
     for p in 0..points.len() {
-        match tell_section(alloc, command, session, marks[p as usize], p, sinks) {
-            Ok(()) => {}
-            Err(halt) => return Err(halt),
-        }
+        tell_section(alloc, command, session, marks[p as usize], p, sinks)?;
     }
     Ok(())
 }

@@ -1,9 +1,5 @@
-<<<<<<< HEAD:crates/dk_run/proofs/reporting/tell_marked/Answers.antt
 use Rattle.std.proofs.Common.{◌≤◌, ◌<◌, ◌++◌, false, List, length, refl, subst, arith}
-=======
-use Rattle.std.proofs.Common.{◌≤◌, ◌<◌, ◌++◌, List, length, refl, subst, arith}
 use Rattle.std.proofs.lemmas.Result.{err_from_is_err_and}
->>>>>>> e7e49a7e38e7ac29897a9b955ab8f89efb27219a:crates/dk_run/proofs/reporting/tell_sections/Answers.antt
 use Rattle.dk_core.proofs.Taking.{reads_of}
 use Rattle.dk_core.specs.Sections.{section_of, report_of}
 use Rattle.dk_core.specs.Standing.{SessionStandsFor}
