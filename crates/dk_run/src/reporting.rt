@@ -83,10 +83,7 @@ fn tell_sections<F: Fn(&[u8]) -> bool + Drop, S: Sinks>(
 {
     let points = session.points();
     for p in 0..points.len() {
-        match tell_section(alloc, command, session, p, sinks) {
-            Ok(()) => {}
-            Err(halt) => return Err(halt),
-        }
+        tell_section(alloc, command, session, p, sinks)?;
     }
     Ok(())
 }
@@ -123,10 +120,7 @@ fn tell_all_stats<F: Fn(&[u8]) -> bool + Drop, S: Sinks>(
 {
     let points = session.points();
     for p in 0..points.len() {
-        match tell_stats(alloc, command, session, p, sinks) {
-            Ok(()) => {}
-            Err(halt) => return Err(halt),
-        }
+        tell_stats(alloc, command, session, p, sinks)?;
     }
     Ok(())
 }
@@ -160,10 +154,8 @@ fn tell_report<F: Fn(&[u8]) -> bool + Drop, S: Sinks>(
     requires selects { SelectsBy (F.post (select_of session.now)) (is_selected command.now) }
     ensures { TellsOutcome (SessionStandsFor session.now) (λ h. whole_report command.now h) (S.written sinks.old) (S.written sinks.new) (S.faults sinks.old) (S.faults sinks.new) result }
 {
-    match tell_sections(alloc, command, session, sinks) {
-        Ok(()) => tell_sizes(alloc, command, session, sinks),
-        Err(halt) => Err(halt),
-    }
+    tell_sections(alloc, command, session, sinks)?;
+    tell_sizes(alloc, command, session, sinks)
 }
 
 // Writes the line in front of a report by the way.
@@ -213,10 +205,8 @@ fn tell_due<F: Fn(&[u8]) -> bool + Drop, S: Sinks>(
     requires selects { SelectsBy (F.post (select_of session.now)) (is_selected command.now) }
     ensures { TellsOutcome (SessionStandsFor session.now) (λ h. blocks_text (blocks_of session.now) ++ whole_report command.now h) (S.written sinks.old) (S.written sinks.new) (S.faults sinks.old) (S.faults sinks.new) result }
 {
-    match tell_blocks(alloc, session.blocks(), sinks) {
-        Ok(()) => tell_report(alloc, command, session, sinks),
-        Err(halt) => Err(halt),
-    }
+    tell_blocks(alloc, session.blocks(), sinks)?;
+    tell_report(alloc, command, session, sinks)
 }
 
 /// Writes the report by the way, if one is due after the last block.
@@ -271,8 +261,6 @@ pub(crate) fn tell_last<F: Fn(&[u8]) -> bool + Drop, S: Sinks>(
     ensures { TellsOutcome (SessionStandsFor session.now) (λ h. option_map_or (λ every. end_text (blocks_of session.now)) command.now.every [] ++ whole_report command.now h)
         (S.written sinks.old) (S.written sinks.new) (S.faults sinks.old) (S.faults sinks.new) result }
 {
-    match tell_end(alloc, command, session.blocks(), sinks) {
-        Ok(()) => tell_report(alloc, command, session, sinks),
-        Err(halt) => Err(halt),
-    }
+    tell_end(alloc, command, session.blocks(), sinks)?;
+    tell_report(alloc, command, session, sinks)
 }

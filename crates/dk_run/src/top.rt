@@ -104,10 +104,8 @@ fn read_run<F: Fn(&[u8]) -> bool + Drop, I: Inputs, S: Sinks>(
         Ok(lines) => lines,
         Err(_) => return Err(FilesTrouble::NoMemory),
     };
-    match read_generated(alloc, command, session, &mut lines, sinks) {
-        Ok(session) => read_files(alloc, command, session, inputs, &mut lines, sinks),
-        Err(trouble) => Err(trouble),
-    }
+    let session = read_generated(alloc, command, session, &mut lines, sinks)?;
+    read_files(alloc, command, session, inputs, &mut lines, sinks)
 }
 
 // Reads the files of the run and tells what they come to, behind the first line of the messages.
