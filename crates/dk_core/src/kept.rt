@@ -140,13 +140,12 @@ impl Kept {
         ensures cause { (file : ℕ) → IsErrOf result (Fault.Read file) → Rose (I.faults inputs.old) (I.faults inputs.new) }
     {
         let arena = Bump::new(self.alloc);
-        match self.reader.next(&arena, inputs, lines, ignores) {
-            Ok(Some(found)) => match self.take(&arena, found) {
-                Ok(()) => Ok(true),
-                Err(fault) => Err(fault),
-            },
-            Ok(None) => Ok(false),
-            Err(fault) => Err(fault),
+        match self.reader.next(&arena, inputs, lines, ignores)? {
+            Some(found) => {
+                self.take(&arena, found)?;
+                Ok(true)
+            }
+            None => Ok(false),
         }
     }
 
@@ -187,13 +186,8 @@ impl Kept {
             Ok(none) => none,
             Err(NoMemory) => return Err(Fault::NoMemory),
         };
-        match replace(self, none).with_declaration(line, decl) {
-            Ok(kept) => {
-                *self = kept;
-                Ok(())
-            }
-            Err(fault) => Err(fault),
-        }
+        *self = replace(self, none).with_declaration(line, decl)?;
+        Ok(())
     }
 
     // The same, where what is kept is taken apart.
@@ -211,17 +205,15 @@ impl Kept {
             grammar,
             engines,
         } = self;
-        match reader.declare(line, decl) {
-            Ok((reader, _)) => match with_new(alloc, engines, reader.points(), grammar) {
-                Ok(engines) => Ok(Kept {
-                    alloc,
-                    reader,
-                    grammar,
-                    engines,
-                }),
-                Err(NoMemory) => Err(Fault::NoMemory),
-            },
-            Err(fault) => Err(fault),
+        let (reader, _) = reader.declare(line, decl)?;
+        match with_new(alloc, engines, reader.points(), grammar) {
+            Ok(engines) => Ok(Kept {
+                alloc,
+                reader,
+                grammar,
+                engines,
+            }),
+            Err(NoMemory) => Err(Fault::NoMemory),
         }
     }
 

@@ -113,13 +113,8 @@ impl<F: Fn(&[u8]) -> bool + Drop> Session<F> {
         ensures select { IfOk result (λ s. select_of s ≡ select) }
         ensures counts { IfOk result (λ s. (blocks_of s ≡ 0) × (file_of s ≡ 0) × (over_of s ≡ false)) }
     {
-        match load(alloc, state) {
-            Ok(loaded) => match Session::of_loaded(alloc, select, options, loaded) {
-                Ok(session) => Ok(session),
-                Err(NoMemory) => Err(LoadFault::NoMemory),
-            },
-            Err(fault) => Err(fault),
-        }
+        let loaded = load(alloc, state)?;
+        Ok(Session::of_loaded(alloc, select, options, loaded)?)
     }
 
     /// Reads and applies the next block of the started file. False where the file ends without one. After a fault nothing is said of the
