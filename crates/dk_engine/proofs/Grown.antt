@@ -21,9 +21,9 @@ use Rattle.dk_engine.specs.Feeding.{is_broken, with_sample}
 use Rattle.dk_engine.specs.Narrow.{AreChangesBelow, AreFoundBelow, IsChange, IsGrown, IsGrowth, StateStays, StayBetween, change_by, found_changes, grown_state, loses, loses_by, lost_places, may_begin, outcome, prolonged, with_change, with_growth, with_state}
 use Rattle.dk_engine.specs.Parts.{no_slot, slot_in}
 use Rattle.dk_engine.specs.Step.{Answer, can_close, is_empty_state}
-use Rattle.dk_engine.specs.declared.changes.Change.{Change}
-use Rattle.dk_engine.specs.declared.changes.Found.{Found}
-use Rattle.dk_engine.specs.declared.growing.Growth.{Growth}
+use Rattle.dk_engine.specs.declared.feed.changes.Change.{Change}
+use Rattle.dk_engine.specs.declared.feed.changes.Found.{Found}
+use Rattle.dk_engine.specs.declared.feed.growing.Growth.{Growth}
 use Rattle.dk_engine.specs.declared.slot.Slot.{Slot}
 
 -- ---- states

@@ -20,7 +20,7 @@ use Rattle.dk_engine.specs.Narrow.{AreChangesBelow, AreLeft, AreMerged, AreOpene
 use Rattle.dk_engine.specs.Parts.{slot_in}
 use Rattle.dk_engine.specs.Reading.{state_read}
 use Rattle.dk_engine.specs.Step.{Answer, AreCandidates, IsStepped, IsSteppedSlot}
-use Rattle.dk_engine.specs.declared.changes.Change.{Change}
+use Rattle.dk_engine.specs.declared.feed.changes.Change.{Change}
 use Rattle.dk_engine.specs.declared.kept.Kept.{Kept}
 use Rattle.dk_engine.specs.declared.now.Now.{Now}
 use Rattle.dk_engine.specs.declared.slot.Slot.{Slot}

@@ -54,7 +54,7 @@ use Rattle.dk_engine.specs.Parts.{no_slot, slot_at, slot_in}
 use Rattle.dk_engine.specs.Reached.{rows_reached}
 use Rattle.dk_engine.specs.Step.{Answer, IsFreedBy, IsPlaced, IsStep, Tells, is_touched, touches}
 use Rattle.dk_engine.specs.Sweeps.{freed_slots, touched_slots, with_both, with_one}
-use Rattle.dk_engine.specs.declared.changes.Change.{Change}
+use Rattle.dk_engine.specs.declared.feed.changes.Change.{Change}
 use Rattle.dk_engine.specs.declared.kept.Kept.{Kept}
 use Rattle.dk_engine.specs.declared.now.Now.{Now}
 use Rattle.dk_engine.specs.declared.slot.Slot.{Slot}

@@ -32,9 +32,9 @@ use Rattle.dk_engine.specs.Feeding.{with_sample}
 use Rattle.dk_engine.specs.Idle.{AreNotes, AreSkips, IsIdle, PassesStill, are_fixed, are_near_each, are_same, are_within, is_axis, is_diagonal, is_fixed, is_idle_over, is_idle_straight, is_listed, is_near, is_passed, later, meets, skip_in}
 use Rattle.dk_engine.specs.Narrow.{change_by, with_change, with_growth, with_state}
 use Rattle.dk_engine.specs.Parts.{no_slot, slot_in}
-use Rattle.dk_engine.specs.declared.changes.Change.{Change}
-use Rattle.dk_engine.specs.declared.facts.Range.{Range}
-use Rattle.dk_engine.specs.declared.growing.Growth.{Growth}
+use Rattle.dk_engine.specs.declared.feed.changes.Change.{Change}
+use Rattle.dk_engine.specs.declared.idle.facts.Range.{Range}
+use Rattle.dk_engine.specs.declared.feed.growing.Growth.{Growth}
 use Rattle.dk_engine.specs.declared.idle.Watch.{Watch}
 use Rattle.dk_engine.specs.declared.slot.Slot.{Slot}
 

@@ -32,7 +32,7 @@ use Rattle.dk_engine.specs.Narrow.{AreChanges, AreLeft, AreMerged, AreOpened, Is
 use Rattle.dk_engine.specs.Parts.{no_slot, slot_in}
 use Rattle.dk_engine.specs.Reading.{state_read}
 use Rattle.dk_engine.specs.Step.{Answer, AreCandidates, IsBegunBound, IsPlaced, IsPremiseOf, IsStep, Tells, can_close, is_empty_state, is_of_elements, is_touched, slot_vars}
-use Rattle.dk_engine.specs.declared.changes.Change.{Change}
+use Rattle.dk_engine.specs.declared.feed.changes.Change.{Change}
 use Rattle.dk_engine.specs.declared.kept.Kept.{Kept}
 use Rattle.dk_engine.specs.declared.slot.Slot.{Slot}
 

@@ -13,8 +13,8 @@ use Rattle.dk_grammar.specs.Runs.{with_sample}
 use Rattle.dk_samples.specs.Samples.{value_in}
 use Rattle.dk_engine.specs.Bounding.{compares}
 use Rattle.dk_engine.specs.Parts.{slot_in}
-use Rattle.dk_engine.specs.declared.facts.Compared.{Compared}
-use Rattle.dk_engine.specs.declared.facts.Range.{Range}
+use Rattle.dk_engine.specs.declared.idle.facts.Compared.{Compared}
+use Rattle.dk_engine.specs.declared.idle.facts.Range.{Range}
 use Rattle.dk_engine.specs.declared.idle.Watch.{Watch}
 use Rattle.dk_engine.specs.declared.slot.Slot.{Slot}
 

@@ -20,11 +20,11 @@ use Rattle.dk_engine.specs.Feeding.{is_broken, parts_after, read_after, with_sam
 use Rattle.dk_engine.specs.Merged.{AreTogether}
 use Rattle.dk_engine.specs.Parts.{slot_in}
 use Rattle.dk_engine.specs.Step.{Answer, IsLeftOf, IsOpened, can_close, is_empty_state, is_of_elements}
-use Rattle.dk_engine.specs.declared.changes.Change.{Change}
-use Rattle.dk_engine.specs.declared.changes.Found.{Found}
-use Rattle.dk_engine.specs.declared.growing.Growth.{Growth}
-use Rattle.dk_engine.specs.declared.growing.Seen.{Seen}
-use Rattle.dk_engine.specs.declared.growing.Seen.TheVariants.{Grows, Neither, Stays}
+use Rattle.dk_engine.specs.declared.feed.changes.Change.{Change}
+use Rattle.dk_engine.specs.declared.feed.changes.Found.{Found}
+use Rattle.dk_engine.specs.declared.feed.growing.Growth.{Growth}
+use Rattle.dk_engine.specs.declared.feed.growing.Seen.{Seen}
+use Rattle.dk_engine.specs.declared.feed.growing.Seen.TheVariants.{Grows, Neither, Stays}
 use Rattle.dk_engine.specs.Sweeps.{freed_slots, touched_slots}
 use Rattle.dk_engine.specs.declared.kept.Kept.{Kept}
 use Rattle.dk_engine.specs.declared.now.Now.{Now}

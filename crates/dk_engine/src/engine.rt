@@ -15,9 +15,9 @@ ghost use Rattle.dk_engine.specs.Memory.{wants_memory};
 ghost use Rattle.dk_engine.specs.Parts.{leaders_of};
 ghost use Rattle.dk_engine.specs.Reading.{agree_read, count_read, read_leaders, state_read};
 
-use crate::bitmaps::Bitmaps;
-use crate::nothing::Nothing;
 use crate::over::Over;
+use crate::over::nothing::Nothing;
+use crate::saved::bitmaps::Bitmaps;
 use crate::taking::are_of_kinds;
 use crate::{Counts, Kept, Slot, Slots};
 use dk_base::{List, NoMemory, VarId, VarInfo, View};

@@ -14,14 +14,25 @@ ghost use Rattle.dk_engine.specs.Feeding.{IsTurned, parts_after, read_after, slo
 ghost use Rattle.dk_engine.specs.Idle.{PassesStill};
 ghost use Rattle.dk_engine.specs.Narrow.{AreFound, IsMergedStep, IsShut, loses_by, lost_places, opened_slots, outcome, slots_left};
 
-use crate::after::After;
-use crate::changes::{Change, Found, changes, few_changes, lose_some, lost_places, some_may_begin};
-use crate::changing::apply_changes;
-use crate::counting::are_many;
-use crate::merging::merge_slots;
-use crate::suited::Suited;
+pub(crate) mod after;
+pub(crate) mod changes;
+pub(crate) mod changing;
+pub(crate) mod growing;
+pub(crate) mod merging;
+pub(crate) mod rising;
+pub(crate) mod runs;
+pub(crate) mod staying;
+
+use crate::feed::after::After;
+use crate::feed::changes::{
+    Change, Found, changes, few_changes, lose_some, lost_places, some_may_begin,
+};
+use crate::feed::changing::apply_changes;
+use crate::feed::merging::merge_slots;
 use crate::sweeps::Sweep;
-use crate::touching::{others, touching_leaders};
+use crate::sweeps::counting::are_many;
+use crate::sweeps::suited::Suited;
+use crate::sweeps::touching::{others, touching_leaders};
 use crate::{Engine, Kept, Now, Slots};
 use dk_base::{List, NoMemory, VarId, View};
 use dk_constants::Constants;

@@ -1,47 +1,23 @@
 //! The engine of a point: what it keeps of the point's samples, and what it answers from that alone.
 #![tactic(auto)]
 
-mod after;
-mod bitmaps;
-mod chain;
-mod changes;
-mod changing;
-mod conditions;
-mod constant;
-mod counting;
 mod counts;
-mod ends;
 mod engine;
-mod facts;
 mod feed;
-mod growing;
 mod idle;
 mod kept;
 pub mod laws;
-mod lending;
-mod mapping;
-mod merging;
-mod moves;
-mod noted;
-mod nothing;
 mod now;
 mod operations;
 mod over;
 mod parts;
-mod places;
 mod points;
-mod reaching;
-mod rising;
-mod runs;
 mod saved;
 mod slot;
 mod slots;
-mod staying;
 pub mod step_laws;
-mod suited;
 mod sweeps;
 mod taking;
-mod touching;
 
 pub use counts::Counts;
 pub use dk_parts::{Known, Pattern};
@@ -53,4 +29,4 @@ pub use points::point;
 pub use saved::PartsFault;
 pub use slot::Slot;
 pub use slots::Slots;
-pub use suited::{suited_vars, suits};
+pub use sweeps::suited::{suited_vars, suits};

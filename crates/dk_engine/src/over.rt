@@ -12,10 +12,15 @@ ghost use Rattle.dk_engine.specs.Conditions.{CanBeRead};
 ghost use Rattle.dk_engine.specs.Memory.{wants_memory};
 ghost use Rattle.dk_engine.specs.Reading.{agree_read, read_leaders, read_written};
 
+pub(crate) mod constant;
+pub(crate) mod lending;
+pub(crate) mod nothing;
+pub(crate) mod places;
+
 use crate::Kept;
-use crate::bitmaps::{Bitmaps, counts_some};
-use crate::constant::{are_known, constant_state};
-use crate::places::find;
+use crate::over::constant::{are_known, constant_state};
+use crate::over::places::find;
+use crate::saved::bitmaps::{Bitmaps, counts_some};
 use dk_base::{NoMemory, VarId, VarInfo};
 use dk_suppress::suppressed;
 use dk_template::{Answers, Grammar, RowId, State, turn_state, written_order};

@@ -11,10 +11,14 @@ ghost use Rattle.dk_engine.specs.Restored.{AreOpen, AreShaped, AreUnsuppressed, 
 ghost use Rattle.dk_engine.specs.Saved.{AreSavedParts, parts_of};
 ghost use Rattle.dk_engine.specs.declared.kept.Kept.{Kept};
 
-use crate::bitmaps::Bitmaps;
-use crate::conditions::are_open;
-use crate::mapping::bitmaps;
-use crate::nothing::Nothing;
+pub(crate) mod bitmaps;
+pub(crate) mod conditions;
+pub(crate) mod mapping;
+
+use crate::over::nothing::Nothing;
+use crate::saved::bitmaps::Bitmaps;
+use crate::saved::conditions::are_open;
+use crate::saved::mapping::bitmaps;
 use crate::{Engine, Kept, Parts, Slot, Slots};
 use dk_base::{List, NoMemory, VarInfo};
 use dk_parts::{classes_from, constants_from, presence_from};

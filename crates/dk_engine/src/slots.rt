@@ -8,11 +8,11 @@ ghost use Rattle.dk_engine.specs.Narrow.{with_change, with_growth};
 ghost use Rattle.dk_engine.specs.declared.slot.Slot.{Slot as KeptSlot};
 
 use crate::Slot;
-use crate::changes::{Change, Found};
-use crate::changing::is_broken;
-use crate::growing::{Growth, grow};
+use crate::feed::changes::{Change, Found};
+use crate::feed::changing::is_broken;
+use crate::feed::growing::{Growth, grow};
+use crate::idle::moves::Moves;
 use crate::idle::{Notes, is_passed, meets, notes_of};
-use crate::moves::Moves;
 use dk_base::{NoMemory, View};
 use std::alloc::Global;
 use std::marker::Model;

@@ -4,9 +4,9 @@ use Rattle.std.proofs.Common.{rules, subst, sym}
 use Rattle.dk_engine.proofs.Passing.{changes_unpassed, growths_unpassed, none_passed}
 use Rattle.dk_engine.specs.Idle.{AreSkips, is_passed}
 use Rattle.dk_engine.specs.Narrow.{with_change, with_growth}
-use Rattle.dk_engine.specs.declared.changes.Change.{Change}
-use Rattle.dk_engine.specs.declared.changes.Found.{Found}
-use Rattle.dk_engine.specs.declared.growing.Growth.{Growth}
+use Rattle.dk_engine.specs.declared.feed.changes.Change.{Change}
+use Rattle.dk_engine.specs.declared.feed.changes.Found.{Found}
+use Rattle.dk_engine.specs.declared.feed.growing.Growth.{Growth}
 use Rattle.dk_engine.proofs.slots.keep_notes.Goals as goal
 
 pub returns-then-some_found_passed : goal.returns-then-some_found_passed

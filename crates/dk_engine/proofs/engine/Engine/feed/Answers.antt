@@ -14,8 +14,8 @@ use Rattle.dk_engine.specs.Exact.{AreSamples, IsKeptOf}
 use Rattle.dk_engine.specs.Feeding.{IsTurned, parts_after, read_after, unchanged_now}
 use Rattle.dk_engine.specs.Narrow.{AreFound, IsChange, IsGrowth, IsMergedStep, IsShut, change_by, found_changes, loses_by, lost_places, outcome, slots_left}
 use Rattle.dk_engine.specs.Levels.{Whole}
-use Rattle.dk_engine.specs.declared.changes.Change.{Change}
-use Rattle.dk_engine.specs.declared.changes.Found.{Found}
+use Rattle.dk_engine.specs.declared.feed.changes.Change.{Change}
+use Rattle.dk_engine.specs.declared.feed.changes.Found.{Found}
 use Rattle.dk_engine.specs.declared.kept.Kept.{Kept}
 use Rattle.dk_engine.specs.declared.slot.Slot.{Slot}
 use Rattle.dk_engine.proofs.engine.Engine.feed.Goals as goal
