@@ -1,5 +1,5 @@
 -- Short whole numbers in front of other bytes.
-use Rattle.std.proofs.Common.{◌≡◌, ◌≢◌, ◌≤◌, ◌<◌, ◌-◌, ◌%◌, ◌^◌, ◌++◌, ◌∙◌, ◌⊎◌, inl, inr, ◌&&◌, ℕ, ℤ, pos, neg_ℤ, zero, suc, Bool, true, false, List, [], ◌∷◌, length, take, drop, get_or, Option, Some, None, refl, sym, ap, arith, nat_lt, length-append, length-drop, append-nil, map, if◌then◌else◌}
+use Rattle.std.proofs.Common.{◌≡◌, ◌≤◌, ◌<◌, ◌-◌, ◌%◌, ◌^◌, ◌++◌, ◌∙◌, ◌⊎◌, inl, inr, ◌&&◌, ℕ, ℤ, pos, neg_ℤ, zero, suc, Bool, true, false, List, [], ◌∷◌, length, take, drop, get_or, Option, Some, None, refl, sym, ap, arith, nat_lt, length-append, length-drop, append-nil, map, if◌then◌else◌}
 use Rattle.std.specs.Prelude.{◌==◌}
 use Rattle.std.specs.Char.{digit_value, is_ascii_digit, is_digit}
 use Rattle.std.specs.List.{list_all}
@@ -249,47 +249,6 @@ short_stands (b ∷ bs) rest z is = go (b == 45) refl is
         → ShortStands (b ∷ bs) z rest
     go true e h = let r = mapped negated (short_digits bs) z rest h in negative_stands b bs rest r.0 z (eqb-true b 45 e) (digits_stand bs rest r.0 r.1) r.2
     go false e h = let r = mapped pos (short_digits (b ∷ bs)) z rest h in positive_stands (b ∷ bs) rest r.0 z (digits_stand (b ∷ bs) rest r.0 r.1) r.2
-
-behind_minus : (o : Option (ℕ × List ℕ)) (bytes ds : List ℕ) → bytes ≡ 45 ∷ ds → o ≡ short_digits ds → with_number negated o ≡ short_number bytes
-unfolding short_number
-behind_minus o bytes ds whole is = ap (with_number negated) is ∙ sym (ap short_number whole)
-
-pub negative : (bytes ds rest : List ℕ) (size : ℕ) (z : ℤ) → bytes ≡ 45 ∷ ds → Some (size, rest) ≡ short_digits ds → z ≡ neg_ℤ (pos size) → Some (z, rest) ≡ short_number bytes
-negative bytes ds rest size z whole is value =
-    ap (λ (y : ℤ). let o : Option (ℤ × List ℕ) = Some (y, rest) in o) value ∙ behind_minus (Some (size, rest)) bytes ds whole is
-
-pub no_negative : (bytes ds : List ℕ) → bytes ≡ 45 ∷ ds → None ≡ short_digits ds → None ≡ short_number bytes
-no_negative bytes ds whole is = behind_minus None bytes ds whole is
-
-without_minus : (o : Option (ℕ × List ℕ)) (b : ℕ) (bs : List ℕ) → (b == 45) ≡ false → o ≡ short_digits (b ∷ bs) → with_number pos o ≡ short_number (b ∷ bs)
-unfolding short_number
-without_minus o b bs other is = rw other (ap (with_number pos) is)
-
-first_digit : (b : ℕ) (bs rest : List ℕ) (size : ℕ) → short_digits (b ∷ bs) ≡ Some (size, rest) → (b == 45) ≡ false
-first_digit b bs rest size is = go (digits_stand (b ∷ bs) rest size is).digits (digits_stand (b ∷ bs) rest size is).whole (digits_stand (b ∷ bs) rest size is).some (digits_stand (b ∷ bs) rest size is).are
-  where
-    go : (ds : List ℕ) → b ∷ bs ≡ ds ++ rest → 0 < length ds → AreDigits ds → (b == 45) ≡ false
-    go [] whole some are = absurd (omega arith)
-    go (d ∷ ds) whole some are =
-        let same : b ≡ d = ap (λ (l : List ℕ). get_or l 0 0) whole in
-        no_minus b (omega (arith, same, (are 0 (omega arith)).0))
-
-no_bytes : None ≡ short_digits []
-unfolding short_digits
-no_bytes = refl
-
-pub positive : (bytes rest : List ℕ) (size : ℕ) (z : ℤ) → Some (size, rest) ≡ short_digits bytes → z ≡ pos size → Some (z, rest) ≡ short_number bytes
-positive [] rest size z is value = let none = is ∙ sym no_bytes in absurd (cc none)
-positive (b ∷ bs) rest size z is value =
-    ap (λ (y : ℤ). let o : Option (ℤ × List ℕ) = Some (y, rest) in o) value ∙ without_minus (Some (size, rest)) b bs (first_digit b bs rest size (sym is)) is
-
-pub no_positive : (bytes : List ℕ) → get_or bytes 0 0 ≢ 45 → None ≡ short_digits bytes → None ≡ short_number bytes
-unfolding short_number
-no_positive [] other is = refl
-no_positive (b ∷ bs) other is = without_minus None b bs (differs b other) is
-  where
-    differs : (c : ℕ) → c ≢ 45 → (c == 45) ≡ false
-    differs c other = grind (arith, nat_tests)
 
 -- nothing, by its length
 pub nothing : (l : List ℕ) → length l < 1 → l ≡ []

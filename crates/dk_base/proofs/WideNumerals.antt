@@ -1,5 +1,5 @@
 -- The texts of whole numbers are read back.
-use Rattle.std.specs.Prelude.{◌≡◌, ◌<◌, ◌^◌, ◌∷◌, [], ℕ, ℤ, pos, negsuc, neg_ℤ, zero, suc, List, Ok, Result, unsigned_abs, refl}
+use Rattle.std.specs.Prelude.{◌≡◌, ◌<◌, ◌^◌, ◌∷◌, ℕ, ℤ, pos, negsuc, neg_ℤ, zero, suc, List, Ok, Result, unsigned_abs, refl}
 use Rattle.std.specs.Fmt.{decimal, signed_decimal}
 use Rattle.std.specs.Str.{IsAscii, IsUtf8}
 use Rattle.std.specs.Str.Parse.{ParsesSigned}

@@ -1,8 +1,8 @@
 // Whole numbers as text.
-ghost use Rattle.std.specs.Prelude.{◌≡◌, ◌+◌, ◌*◌, ◌≤◌, option_and_then, option_map, Some};
+ghost use Rattle.std.specs.Prelude.{◌≡◌, ◌+◌, ◌*◌, ◌^◌, ◌<◌, ◌≤◌, option_and_then, option_map, pos, Some, if◌then◌else◌};
 ghost use Rattle.std.specs.Char.{digit_value as value_of_digit};
 ghost use Rattle.dk_base.specs.Items.{item_in_range, item_in_u64};
-ghost use Rattle.dk_base.specs.Numbers.{fits_i64, in_u64, integer_of, natural_of, numeral_of, short_digits, short_number, signed, whole_of};
+ghost use Rattle.dk_base.specs.Numbers.{fits_i64, in_u64, integer_of, natural_of, negated, numeral_of, short_digits, short_number, signed, whole_of};
 
 use crate::items::Item;
 use core::dec2flt::read_digits;
@@ -64,22 +64,33 @@ fn short_digits(bytes: &[u8]) -> Option<(u64, &[u8])>
     Some((size, &bytes[len..]))
 }
 
+// A number of this size, less than 10 to 18, with a minus or without.
+fn with_sign(is_negative: bool, size: u64) -> i64
+    requires { size < 10 ^ 18 }
+    ensures { result ≡ (if is_negative then negated size else pos size) }
+{
+    if is_negative {
+        -(size as i64)
+    } else {
+        size as i64
+    }
+}
+
 /// The whole number that up to 18 decimal digits with an optional minus in front write, and what follows them; none where no digit stands
-/// there, or more than 18.
+/// there, or more than 18. Whether a minus stands there is no branch, since in many traces it can't be foreseen.
 #[tactic(auto, unfolding(crate::specs::Numbers::short_number))]
 pub fn short_number(bytes: &[u8]) -> Option<(i64, &[u8])>
     ensures { option_map (λ r. (r.0, r.1.now)) result ≡ short_number bytes.now }
 {
     match bytes {
         [] => None,
-        [b'-', digits @ ..] => match short_digits(digits) {
-            Some((size, rest)) => Some((-(size as i64), rest)),
-            None => None,
-        },
-        [_, ..] => match short_digits(bytes) {
-            Some((size, rest)) => Some((size as i64, rest)),
-            None => None,
-        },
+        [first, ..] => {
+            let is_negative = *first == b'-';
+            match short_digits(&bytes[usize::from(is_negative)..]) {
+                Some((size, rest)) => Some((with_sign(is_negative, size), rest)),
+                None => None,
+            }
+        }
     }
 }
 

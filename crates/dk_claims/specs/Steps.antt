@@ -26,7 +26,8 @@ Takes old (Err e) (Err e') new = e ≡ e'
 Takes old answer result new = ⊥
 
 -- a line was taken, or there is none
-pub record TakesLine (old : Sections) (r : Reading) (before : Option (List ℕ)) (result : Result Bool LineFault) (new : Sections) (r' : Reading)
+pub record TakesLine (old : Sections) (r : Reading) (before : Option (List ℕ))
+    (result : Result Bool LineFault) (new : Sections) (r' : Reading)
     (after : Option (List ℕ)) : Type 0 where
   pub answer : Result (Option Line) LineFault
   pub is_next : IsNextLine r before answer r' after

@@ -24,13 +24,12 @@ fn take_line<I: Inputs>(
     ensures later { I.faults inputs.old ≤ I.faults inputs.new }
     ensures cause { IsErrOf result LineFault.Read → Rose (I.faults inputs.old) (I.faults inputs.new) }
 {
-    match lines.next(inputs) {
-        Ok(Some(line)) => match sections.line(line.bytes) {
+    match lines.next(inputs)? {
+        Some(line) => match sections.line(line.bytes) {
             Ok(()) => Ok(true),
             Err(NoMemory) => Err(LineFault::NoMemory),
         },
-        Ok(None) => Ok(false),
-        Err(fault) => Err(fault),
+        None => Ok(false),
     }
 }
 
@@ -82,11 +81,9 @@ pub fn read_claims<I: Inputs>(
     ensures later { I.faults inputs.old ≤ I.faults inputs.new }
     ensures cause { IsErrOf result LineFault.Read → Rose (I.faults inputs.old) (I.faults inputs.new) }
 {
-    match read_sections(alloc, inputs, lines) {
-        Ok(sections) => match claims_of(alloc, sections.as_slice()) {
-            Ok(claims) => Ok(claims),
-            Err(NoMemory) => Err(LineFault::NoMemory),
-        },
-        Err(fault) => Err(fault),
+    let sections = read_sections(alloc, inputs, lines)?;
+    match claims_of(alloc, sections.as_slice()) {
+        Ok(claims) => Ok(claims),
+        Err(NoMemory) => Err(LineFault::NoMemory),
     }
 }

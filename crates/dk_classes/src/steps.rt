@@ -57,11 +57,20 @@ pub(crate) fn leading(alloc: Global, leaders: &[VarId]) -> Result<Vec<VarId>, No
     Ok(own)
 }
 
+// Whether the values of two variables in the sample are one. It stands apart from `agree_in`, since most variables lead their classes.
+#[inline(never)]
+fn have_one_value(sample: &[View<'_>], v: VarId, w: VarId) -> bool
+    ensures { IsTrue result ↔ (value_in (values_of sample.now) v ≡ value_in (values_of sample.now) w) }
+{
+    same(value_at(sample, v), value_at(sample, w))
+}
+
 // Whether the two variables have one value in the sample.
+#[inline(always)]
 fn agree_in(sample: &[View<'_>], v: VarId, w: VarId) -> bool
     ensures { IsTrue result ↔ (value_in (values_of sample.now) v ≡ value_in (values_of sample.now) w) }
 {
-    v.0 == w.0 || same(value_at(sample, v), value_at(sample, w))
+    v.0 == w.0 || have_one_value(sample, v, w)
 }
 
 /// Whether each variable has the value of its leader.

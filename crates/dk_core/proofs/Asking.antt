@@ -4,6 +4,7 @@ use Rattle.std.proofs.lemmas.List.{append-nil}
 use Rattle.std.proofs.lemmas.List.Elements.{All-head, All-tail}
 use Rattle.std.specs.Prelude.{OnOk, slice_index_or}
 use Rattle.dk_engine.specs.Levels.{Whole}
+use Rattle.dk_hierarchy.specs.Having.{have_samples as have_samples_in}
 use Rattle.dk_hierarchy.specs.Samples.{own_samples_of}
 use Rattle.dk_hierarchy.specs.Standing.{EnginesStandFor}
 use Rattle.dk_points.specs.Table.{Point, names}
@@ -16,7 +17,7 @@ use Rattle.dk_blocks.specs.History.{History}
 use Rattle.dk_blocks.specs.Standing.{points_of as points_in}
 use Rattle.dk_core.proofs.Taking.{table_of}
 use Rattle.dk_core.specs.Keeping.{IsSound, Keeping}
-use Rattle.dk_core.specs.Sections.{has_samples, has_section, name_in_history, section_of, some_if}
+use Rattle.dk_core.specs.Sections.{has_samples, has_section, have_samples, name_in_history, section_of, some_if}
 use Rattle.dk_core.specs.Standing.{Stands}
 
 pub if_ok_map : {A E : Type 0} (r : Result A E) (P Q : A → Type 0) → IfOk r P → ((x : A) → P x → Q x) → IfOk r Q
@@ -51,6 +52,10 @@ asked k ps engines h stands table same =
 pub has_told : (k : Keeping) (ps : List Point) (h : History) (p : ℕ) (some : Bool) → Stands k h → ps ≡ points_in k.reader → some ≡ has_samples_in ps h.samples p → some ≡ has_samples h p
 unfolding Stands
 has_told k ps h p some stands table says = says ∙ ap (λ (qs : List Point). has_samples_in qs h.samples p) (table ∙ table_of k.reader h stands.reader)
+
+pub have_told : (k : Keeping) (ps : List Point) (h : History) (marks : List Bool) → Stands k h → ps ≡ points_in k.reader → marks ≡ have_samples_in ps h.samples → marks ≡ have_samples h
+unfolding Stands
+have_told k ps h marks stands table says = says ∙ ap (λ (qs : List Point). have_samples_in qs h.samples) (table ∙ table_of k.reader h stands.reader)
 
 pub section_told : (k : Keeping) (ps : List Point) (h : History) (p : ℕ) (options : Options) (old new : List ℕ) (grammar : Grammar) → Stands k h → ps ≡ points_in k.reader → grammar ≡ k.grammar
     → new ≡ old ++ section_in grammar options ps h.samples p → new ≡ old ++ section_in h.grammar options h.table h.samples p

@@ -1,7 +1,8 @@
 -- The report of a history: the sections of its points, and their sizes.
 use Rattle.std.specs.Prelude.{◌&&◌, ℕ, Bool, List, [], flat_map, Option, Some, None, if◌then◌else◌}
 use Rattle.std.specs.List.{enumerate_from}
-use Rattle.dk_report.specs.Reports.{has_samples as has_samples_in, name_in_table as name_in, section_of as section_in}
+use Rattle.dk_hierarchy.specs.Having.{has_samples as has_samples_in, have_samples as have_samples_in}
+use Rattle.dk_report.specs.Reports.{name_in_table as name_in, section_of as section_in}
 use Rattle.dk_report.specs.Sizes.{has_own_samples as has_own_samples_in, stats_of as stats_in}
 use Rattle.dk_report.specs.declared.options.Options.{Options}
 use Rattle.dk_blocks.specs.History.{History}
@@ -17,6 +18,10 @@ some_if has text = if has then Some text else None
 -- a point has samples, its own or its children's
 abbrev pub has_samples : History → ℕ → Bool
 has_samples h p = has_samples_in h.table h.samples p
+
+-- which points have some, in the order of the table
+abbrev pub have_samples : History → List Bool
+have_samples h = have_samples_in h.table h.samples
 
 -- it has a section if its name is selected and it has samples
 abbrev pub has_section : (List ℕ → Bool) → History → ℕ → Bool

@@ -22,7 +22,7 @@ ghost use Rattle.dk_trace.specs.Fitting.{FitKinds};
 ghost use Rattle.dk_core.specs.Growing.{AreGrown};
 ghost use Rattle.dk_core.specs.Keeping.{saved_by};
 ghost use Rattle.dk_core.specs.Resuming.{IsStart, state_file};
-ghost use Rattle.dk_core.specs.Sections.{has_own_samples, has_samples, stats_of};
+ghost use Rattle.dk_core.specs.Sections.{has_own_samples, has_samples, have_samples, stats_of};
 
 use bumpalo::Bump;
 use dk_base::{Fault, NoMemory, PointId, Text, View};
@@ -30,7 +30,7 @@ use dk_blocks::{Found, Reader};
 use dk_decl::PointDecl;
 use dk_derive::extend;
 use dk_engine::Engine;
-use dk_hierarchy::engine_of;
+use dk_hierarchy::{engine_of, have_samples};
 use dk_io::Inputs;
 use dk_lines::Lines;
 use dk_points::Points;
@@ -140,13 +140,12 @@ impl Kept {
         ensures cause { (file : ℕ) → IsErrOf result (Fault.Read file) → Rose (I.faults inputs.old) (I.faults inputs.new) }
     {
         let arena = Bump::new(self.alloc);
-        match self.reader.next(&arena, inputs, lines, ignores) {
-            Ok(Some(found)) => match self.take(&arena, found) {
-                Ok(()) => Ok(true),
-                Err(fault) => Err(fault),
-            },
-            Ok(None) => Ok(false),
-            Err(fault) => Err(fault),
+        match self.reader.next(&arena, inputs, lines, ignores)? {
+            Some(found) => {
+                self.take(&arena, found)?;
+                Ok(true)
+            }
+            None => Ok(false),
         }
     }
 
@@ -187,13 +186,9 @@ impl Kept {
             Ok(none) => none,
             Err(NoMemory) => return Err(Fault::NoMemory),
         };
-        match replace(self, none).with_declaration(line, decl) {
-            Ok(kept) => {
-                *self = kept;
-                Ok(())
-            }
-            Err(fault) => Err(fault),
-        }
+        let kept = replace(self, none).with_declaration(line, decl)?;
+        *self = kept;
+        Ok(())
     }
 
     // The same, where what is kept is taken apart.
@@ -211,17 +206,15 @@ impl Kept {
             grammar,
             engines,
         } = self;
-        match reader.declare(line, decl) {
-            Ok((reader, _)) => match with_new(alloc, engines, reader.points(), grammar) {
-                Ok(engines) => Ok(Kept {
-                    alloc,
-                    reader,
-                    grammar,
-                    engines,
-                }),
-                Err(NoMemory) => Err(Fault::NoMemory),
-            },
-            Err(fault) => Err(fault),
+        let (reader, _) = reader.declare(line, decl)?;
+        match with_new(alloc, engines, reader.points(), grammar) {
+            Ok(engines) => Ok(Kept {
+                alloc,
+                reader,
+                grammar,
+                engines,
+            }),
+            Err(NoMemory) => Err(Fault::NoMemory),
         }
     }
 
@@ -259,6 +252,14 @@ impl Kept {
         ensures stands { (h : History) → Stands self.now h → EngineStandsFor result.now (own_samples_of h.table h.samples p.0) }
     {
         &self.engines[p.0 as usize]
+    }
+
+    /// Whether each point has samples, in order.
+    pub(crate) fn have_samples(&self) -> Result<Vec<bool>, NoMemory>
+        ensures long { IfOk result (λ marks. length marks.items ≡ length (points_in self.now.reader)) }
+        ensures marks { (h : History) → Stands self.now h → IfOk result (λ marks. marks.items ≡ have_samples h) }
+    {
+        have_samples(self.alloc, self.reader.points(), self.engines.as_slice())
     }
 
     /// Writes the point's section behind the text, whatever its name: whether it has samples.

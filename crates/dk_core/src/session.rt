@@ -10,7 +10,7 @@ ghost use Rattle.dk_lines.specs.Reading.{left_of};
 ghost use Rattle.dk_state.specs.Saved.{saved_text};
 ghost use Rattle.dk_state.specs.Spelling.{IsOwnTable, IsSpelling};
 ghost use Rattle.dk_core.specs.Resuming.{HasTableOfState, IsOfLoaded, IsStart, state_file};
-ghost use Rattle.dk_core.specs.Sections.{has_own_samples, has_section, section_of, some_if, stats_of};
+ghost use Rattle.dk_core.specs.Sections.{has_own_samples, has_section, have_samples, section_of, some_if, stats_of};
 ghost use Rattle.dk_core.specs.Selecting.{SelectsBy};
 ghost use Rattle.dk_core.specs.Standing.{ReportsAlike, SessionReadsFor, SessionStandsFor, blocks_of, file_of, grammar_of, left_with_answer, options_of, over_of, points_of, saved_of, select_of};
 ghost use Rattle.dk_core.specs.Steps.{NextBlock, SessionCounts};
@@ -113,13 +113,8 @@ impl<F: Fn(&[u8]) -> bool + Drop> Session<F> {
         ensures select { IfOk result (λ s. select_of s ≡ select) }
         ensures counts { IfOk result (λ s. (blocks_of s ≡ 0) × (file_of s ≡ 0) × (over_of s ≡ false)) }
     {
-        match load(alloc, state) {
-            Ok(loaded) => match Session::of_loaded(alloc, select, options, loaded) {
-                Ok(session) => Ok(session),
-                Err(NoMemory) => Err(LoadFault::NoMemory),
-            },
-            Err(fault) => Err(fault),
-        }
+        let loaded = load(alloc, state)?;
+        Ok(Session::of_loaded(alloc, select, options, loaded)?)
     }
 
     /// Reads and applies the next block of the started file. False where the file ends without one. After a fault nothing is said of the
@@ -187,6 +182,15 @@ impl<F: Fn(&[u8]) -> bool + Drop> Session<F> {
         ensures stands { (h : History) → SessionStandsFor self.now h → EngineStandsFor result.now (own_samples_of h.table h.samples p.0) }
     {
         self.kept.engine(p)
+    }
+
+    /// Whether each point has samples, its own or its children's, in the order of the table. It takes one walk over the edges, and a
+    /// section goes down from its point.
+    pub fn have_samples(&self) -> Result<Vec<bool>, NoMemory>
+        ensures long { IfOk result (λ marks. length marks.items ≡ length (points_of self.now)) }
+        ensures marks { (h : History) → SessionStandsFor self.now h → IfOk result (λ marks. marks.items ≡ have_samples h) }
+    {
+        self.kept.have_samples()
     }
 
     /// Writes the point's section behind the text: whether it has one. It has none without samples, or where its name isn't selected.

@@ -136,7 +136,8 @@ IsRefusedOrShort f (Ok feed) = ⊥
 IsRefusedOrShort f (Err fault) = (fault ≡ Refused f.file f.line f.why) ⊎ (fault ≡ NoMemory)
 
 -- Files that are held are read where they hold no fault, and else refused at their first one. Files behind a faulty one need not be there.
-pub record IsComplete {C : Type 0} (traces : Traces) (room : ℕ) (file : List ℕ → HeldFile) (result : Result (Feed C) FilesFault) : Type 0 where
+pub record IsComplete {C : Type 0} (traces : Traces) (room : ℕ)
+    (file : List ℕ → HeldFile) (result : Result (Feed C) FilesFault) : Type 0 where
   pub read : (contents : List (List ℕ)) → AreHeldFiles (helds_of traces file) contents
       → first_fault traces.ignore_missing_entry room (map ended_file contents) ≡ None → IsReadOrShort result
   pub refused : (n : ℕ) (contents : List (List ℕ)) (f : FaultAt) → AreHeldFiles (take n (helds_of traces file)) contents

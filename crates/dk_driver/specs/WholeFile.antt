@@ -57,7 +57,8 @@ pub record ComesToEnd (ignores : Bool) (place : ℕ) (history : History) (before
 abbrev pub HasFault : Bool → ℕ → History → Reading → List ℕ → LineFault → Type 0
 HasFault ignores place history old xs fault = (walk_behind ignores place history (groups_left false old true xs)).end ≡ Err fault
 
--- Of the file's bytes xs a front without a fault was delivered. Where it is all, and ends in a blank line without LF, it may count as ended.
+-- Of the file's bytes xs a front without a fault was delivered. Where it is all, and ends in a blank line without LF, it may count as
+-- ended.
 pub record IsBroken (ignores : Bool) (place : ℕ) (history : History) (old : Reading) (xs : List ℕ) (left : Option (List ℕ)) : Type 0 where
   pub front : List ℕ
   pub rest : List ℕ

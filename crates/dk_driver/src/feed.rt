@@ -71,13 +71,12 @@ impl<C: Consumer> Feed<C> {
         ensures cause { (file : ℕ) → IsErrOf result (Fault.Read file) → Rose (I.faults inputs.old) (I.faults inputs.new) }
     {
         let arena = Bump::new(self.alloc);
-        match self.events.next(&arena, inputs, lines) {
-            Ok(Some(event)) => match self.consumer.take(self.events.points(), place, event) {
+        match self.events.next(&arena, inputs, lines)? {
+            Some(event) => match self.consumer.take(self.events.points(), place, event) {
                 Ok(()) => Ok(true),
                 Err(NoMemory) => Err(Fault::NoMemory),
             },
-            Ok(None) => Ok(false),
-            Err(fault) => Err(fault),
+            None => Ok(false),
         }
     }
 

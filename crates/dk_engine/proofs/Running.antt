@@ -162,3 +162,19 @@ module _ (asked : Bool) (after : Answer) (sample : List Value) (slots : List Slo
     outcome_of_shut asked (slot_in slots k) (shut k (omega (arith, first, a)) (omega (arith, b, last))) after sample ∙ passes place k a (passed k a b),
     whole k no_slot (omega (arith, b, last, most)),
   )
+
+-- slots from a place up to another that the sample leaves as they are, if they are of the row
+abbrev pub AreStill : RowId → List Value → List Slot → ℕ → ℕ → Type 0
+AreStill row sample slots from to = (k : ℕ) → from ≤ k → k < to → IsStill row sample (slot_in slots k)
+
+module _ (row : RowId) (sample : List Value) (slots : List Slot) where
+  pub still_on : (from at to : ℕ) → AreStill row sample slots from at → AreStill row sample slots at to → AreStill row sample slots from to
+  still_on from at to before behind k first last = elim (cases_lt k at) as (λ _. IsStill row sample (slot_in slots k)) [
+    | inl lt ↦ before k first lt
+    | inr ge ↦ behind k ge last
+  ]
+
+  pub passed_still : (skips : List ℕ) → PassesStill sample slots skips → (from to : ℕ) → ((k : ℕ) → from ≤ k → k < to → (slot_in slots k).row ≡ row)
+      → (place next : ℕ) → from ≤ place → next ≤ to → ((j : ℕ) → place ≤ j → j < next → j < skip_in skips place) → AreStill row sample slots place next
+  passed_still skips passes from to are place next first last passed k a b =
+      subst (λ (r : RowId). IsStill r sample (slot_in slots k)) (are k (omega (arith, first, a)) (omega (arith, b, last))) (passes place k a (passed k a b))

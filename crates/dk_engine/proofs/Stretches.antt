@@ -40,6 +40,10 @@ before_itself p = grind arith
 is_before_of : (p q : ℤ × ℤ × ℤ) → Before p q → is_before p q ≡ true
 is_before_of p q h = elim (before_or p q) as (λ _. is_before p q ≡ true) [ inl k ↦ k.1 | inr k ↦ subst (λ t. is_before p t ≡ true) (before_antisymmetric p q h k.0) (before_itself p) ]
 
+-- a point that isn't before another has that one before it
+pub after_of : (p q : ℤ × ℤ × ℤ) → is_before p q ≡ false → is_before q p ≡ true
+after_of p q e = elim (before_or p q) as (λ _. is_before q p ≡ true) [ inl h ↦ absurd (false≢true (sym e ∙ h.1)) | inr h ↦ is_before_of q p h.0 ]
+
 no_step : (a b x y : ℤ) → int_eq (a *ℤ (y -ℤ y)) ((x -ℤ x) *ℤ b) ≡ true
 no_step a b x y =
     (Decides-int_eq (a *ℤ (y -ℤ y)) ((x -ℤ x) *ℤ b)).1

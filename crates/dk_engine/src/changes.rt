@@ -15,7 +15,7 @@ ghost use Rattle.dk_engine.specs.Step.{IsPlaced, can_close, is_empty_state, is_o
 use crate::Slot;
 use crate::after::After;
 use crate::growing::{Growth, Seen, seen_with};
-use crate::runs::{passed_to, run_end, run_to};
+use crate::runs::{passed_to, run_end, still_to};
 use crate::staying::is_of_bounds_or_comparisons;
 use dk_base::{List, NoMemory, View};
 use dk_suppress::{asked_of, suppressed};
@@ -237,10 +237,10 @@ fn add_changes(
         return add_seen(after, asked, skips, slots, from, to, found);
     }
     let sample = after.sample();
-    let mut place = run_to(after, row, slots, from, to);
+    let mut place = still_to(after, skips, row, slots, from, to);
     while place < to {
         push_found(after, asked, sample, slots, place, found)?;
-        place = run_to(after, row, slots, place + 1, to);
+        place = still_to(after, skips, row, slots, place + 1, to);
     }
     Ok(())
 }

@@ -262,19 +262,14 @@ impl Engine {
         Ok(())
     }
 
-    /// Takes one sample more. After want of memory the engine can be fed and asked as before, and nothing else is said of what it keeps.
-    pub fn feed(&mut self, sample: &[View<'_>]) -> Result<(), NoMemory>
+    // Takes one sample more, whatever it changes. It has much to put on its stack, so it stands apart from `feed`, which mostly doesn't come here.
+    #[inline(never)]
+    fn feed_anew(&mut self, sample: &[View<'_>]) -> Result<(), NoMemory>
         requires { IsSample self.old.infos (values_of sample.now) }
         ensures grammar { self.new.grammar ≡ self.old.grammar }
         ensures infos { self.new.infos ≡ self.old.infos }
         ensures stands { IfOk result (λ _. (samples : List (List SampleValue)) → AreSamples self.old.infos samples → IsKeptOf self.old.grammar self.old.infos samples self.old.kept → IsKeptOf self.old.grammar self.old.infos (samples ++ values_of sample.now ∷ []) self.new.kept) }
     {
-        if self.is_settled(sample) {
-            let few = self.few_changes(sample)?;
-            if let Some(changes) = few {
-                return self.change(sample, changes);
-            }
-        }
         let now = self.turn(sample)?;
         if self.kept.samples == 0 {
             let none = Slots::new(self.alloc);
@@ -288,5 +283,21 @@ impl Engine {
         }
         let opened = self.opened_slots(sample, &now, lost.as_slice())?;
         self.step(sample, now, found, lost.as_slice(), opened)
+    }
+
+    /// Takes one sample more. After want of memory the engine can be fed and asked as before, and nothing else is said of what it keeps.
+    pub fn feed(&mut self, sample: &[View<'_>]) -> Result<(), NoMemory>
+        requires { IsSample self.old.infos (values_of sample.now) }
+        ensures grammar { self.new.grammar ≡ self.old.grammar }
+        ensures infos { self.new.infos ≡ self.old.infos }
+        ensures stands { IfOk result (λ _. (samples : List (List SampleValue)) → AreSamples self.old.infos samples → IsKeptOf self.old.grammar self.old.infos samples self.old.kept → IsKeptOf self.old.grammar self.old.infos (samples ++ values_of sample.now ∷ []) self.new.kept) }
+    {
+        if self.is_settled(sample) {
+            let few = self.few_changes(sample)?;
+            if let Some(changes) = few {
+                return self.change(sample, changes);
+            }
+        }
+        self.feed_anew(sample)
     }
 }

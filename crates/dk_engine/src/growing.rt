@@ -1,6 +1,6 @@
 // Planes and stretches of a line with a sample: whether they stay as they are, and stretches that grow, as the sample's point lies on the
 // line, beyond the last one.
-ghost use Rattle.std.specs.Prelude.{◌≡◌, ◌≢◌, ◌∷◌, [], ◌^◌, unsigned_abs, nat_le, IsTrue};
+ghost use Rattle.std.specs.Prelude.{◌≡◌, ◌≢◌, ◌∷◌, [], ◌^◌, false, unsigned_abs, nat_le, IsTrue};
 ghost use Rattle.dk_base.specs.Values.{values_of};
 ghost use Rattle.dk_fits.specs.Fits.{is_whole, tuple_in};
 ghost use Rattle.dk_forms.specs.Plane.{IsPlaneState, IsPoint, IsSpan, are_aligned, are_parallel, in_space, is_before, plane_join, plane_of};
@@ -128,25 +128,25 @@ fn stays_at(state: &State, x: i64, y: i64, z: i64) -> bool
     }
 }
 
-// Whether a stretch with a point more ends at the point.
+// Whether a stretch with a point more, which is after its last one, ends at the point.
 #[inline(always)]
 fn reaches(x1: i64, y1: i64, z1: i64, x2: i64, y2: i64, z2: i64, x: i64, y: i64, z: i64) -> bool
-    requires { IsSpan ((x1, y1, z1), (x2, y2, z2)) }
+    requires stretch { IsSpan ((x1, y1, z1), (x2, y2, z2)) }
+    requires after { is_before (x, y, z) (x2, y2, z2) ≡ false }
     ensures { IsTrue result → Span x1 y1 z1 x y z ≡ plane_join (Span x1 y1 z1 x2 y2 z2) (plane_of ((x, y, z) ∷ [])) }
 {
-    if !is_in_space(x, y, z) {
-        return false;
+    if is_in_space(x, y, z) {
+        is_on_line(x1, y1, z1, x2, y2, z2, x, y, z)
+    } else {
+        false
     }
-    if !is_before(x2, y2, z2, x, y, z) {
-        return false;
-    }
-    is_on_line(x1, y1, z1, x2, y2, z2, x, y, z)
 }
 
-// Whether the state is a stretch of a line that ends at the point, with the point.
+// Whether the state, a stretch of a line that ends before the point, ends at the point with it.
 #[inline(always)]
 fn grows(state: &State, x: i64, y: i64, z: i64) -> bool
-    requires { IsPlaneState state.now }
+    requires state { IsPlaneState state.now }
+    requires after { may_stay state.now x y z ≡ false }
     ensures state { IsTrue result → prolonged state.now x y z ≡ plane_join state.now (plane_of ((x, y, z) ∷ [])) }
     ensures unbroken { IsTrue result → state.now ≢ Broken }
 {

@@ -1,5 +1,5 @@
-// Which bounds moved lately. What is noted of slots holds as long as none of those that are passed over changes, so a bound that moves isn't
-// noted. Nothing is said of it here: whatever is noted is right, and this decides what is worth it.
+// Which bounds move often. What is noted of slots holds as long as none of those that are passed over changes, so such a bound isn't noted.
+// Nothing is said of it here: whatever is noted is right, and this decides what is worth it.
 use crate::Slot;
 use crate::changes::Change;
 use dk_base::{NoMemory, VarId};
@@ -8,14 +8,23 @@ use std::alloc::Global;
 // How many samples come before anything is noted: fewer cost less without.
 const FIRST: u64 = 4;
 
-// How many come before bounds are. Each time that the samples are twice as many, bounds that moved are noted once more.
+// How many come before bounds are.
 const BOUNDS: u64 = 1024;
 
-/// How many samples slots have taken since they were put together, and which bounds moved lately, by their numbers.
+// Notes are young in the first samples, one for each so many slots. To make them costs as much as some samples, so a bound that moves while
+// they are young isn't noted. Another one is at once.
+const YOUNG: usize = 16;
+
+// All bounds are noted once more after so many samples for each slot, or when the samples are twice as many.
+const OLD: usize = 64;
+
+/// How many samples slots have taken since they were put together, how many since the notes were made, and how many are left until all bounds
+/// are noted once more; and which bounds moved while the notes were young, by their numbers.
 #[derive(Drop)]
 pub(crate) struct Moves {
     samples: u64,
-    due: u64,
+    age: u32,
+    left: u32,
     moved: Vec<bool>,
 }
 
@@ -50,20 +59,29 @@ impl Moves {
     pub(crate) fn none(alloc: Global) -> Moves {
         Moves {
             samples: 0,
-            due: BOUNDS,
+            age: 0,
+            left: BOUNDS as u32,
             moved: Vec::new(alloc),
         }
     }
 
-    /// A sample more. Whether all is to be noted anew.
-    pub(crate) fn count(&mut self) -> bool {
+    /// A sample more, which leaves so many slots. Whether all is to be noted anew.
+    pub(crate) fn count(&mut self, slots: usize) -> bool {
         self.samples = self.samples.saturating_add(1);
-        if self.samples < self.due {
+        self.age = self.age.saturating_add(1);
+        self.left = self.left.saturating_sub(1);
+        if 0 < self.left {
             return false;
         }
-        self.due = self.due.saturating_mul(2);
+        let old = slots.saturating_mul(OLD) as u64;
+        self.left = old.min(self.samples).min(u32::MAX as u64) as u32;
         self.forget();
         true
+    }
+
+    /// The notes are made.
+    pub(crate) fn renew(&mut self) {
+        self.age = 0;
     }
 
     /// No bound has moved.
@@ -82,6 +100,11 @@ impl Moves {
             Some(number) => BOUNDS <= self.samples && !matches!(self.moved.get(number), Some(true)),
             None => false,
         }
+    }
+
+    // Whether the notes of so many slots are young.
+    fn are_young(&self, slots: usize) -> bool {
+        self.age as usize <= slots / YOUNG
     }
 
     // The bound of this number moved.
@@ -109,7 +132,7 @@ impl Moves {
         slots: &[Slot],
         changes: &[Change],
     ) -> Result<(), NoMemory> {
-        if self.samples < BOUNDS {
+        if self.samples < BOUNDS || !self.are_young(slots.len()) {
             return Ok(());
         }
         for change in changes {

@@ -5,7 +5,7 @@ ghost use Rattle.dk_base.specs.Values.{values_of};
 ghost use Rattle.dk_base.specs.declared.kinds.VarId.{VarId};
 ghost use Rattle.dk_engine.specs.Exact.{SlotBefore};
 ghost use Rattle.dk_engine.specs.Feeding.{with_sample};
-ghost use Rattle.dk_engine.specs.Idle.{skip_in};
+ghost use Rattle.dk_engine.specs.Idle.{PassesStill, skip_in};
 ghost use Rattle.dk_engine.specs.Narrow.{is_in_run};
 ghost use Rattle.dk_engine.specs.Parts.{slot_in};
 ghost use Rattle.dk_engine.specs.Step.{IsPlaced, can_close};
@@ -18,7 +18,7 @@ use crate::Slot;
 use crate::after::After;
 use crate::changes::can_close;
 use crate::ends::REACH;
-use crate::idle::skip_at;
+use crate::idle::{is_passed, skip_at};
 use dk_base::View;
 use dk_grammar::first_changed;
 use dk_template::RowId;
@@ -156,8 +156,8 @@ pub(crate) fn passed_to(skips: &[usize], from: usize, to: usize) -> usize
     }
 }
 
-/// Up to where the slots of a row from one place to another stay as they are.
-pub(crate) fn run_to(after: &After<'_>, row: RowId, slots: &[Slot], from: usize, to: usize) -> usize
+// Up to where the slots of a row from one place to another stay as they are.
+fn run_to(after: &After<'_>, row: RowId, slots: &[Slot], from: usize, to: usize) -> usize
     requires row { IsRow row }
     requires placed { All (λ slot. IsPlaced after.now.whole.grammar after.now.whole.infos after.now.whole.kept.leaders slot.row slot.leaders) slots.now }
     requires proper { All (λ slot. IsProper (form_of slot.row) slot.state) slots.now }
@@ -169,4 +169,83 @@ pub(crate) fn run_to(after: &After<'_>, row: RowId, slots: &[Slot], from: usize,
     ensures still { (k : ℕ) → from ≤ k → k < result → with_sample row (slot_in slots.now k).leaders after.now.sample (slot_in slots.now k).state ≡ (slot_in slots.now k).state }
 {
     from + still(row, &slots[from..to], after.sample())
+}
+
+// Up to where the slots from one place to another are looked at, the first of them in any case: in front of the next that is passed over.
+fn looked_to(skips: &[usize], from: usize, to: usize) -> usize
+    requires { from < to }
+    ensures from { from < result }
+    ensures to { result ≤ to }
+{
+    for place in from + 1..to {
+        if is_passed(skips, place) {
+            return place;
+        }
+    }
+    to
+}
+
+// The same, where those that are passed over aren't looked at.
+fn still_among(
+    after: &After<'_>,
+    skips: &[usize],
+    row: RowId,
+    slots: &[Slot],
+    from: usize,
+    to: usize,
+) -> usize
+    requires row { IsRow row }
+    requires placed { All (λ slot. IsPlaced after.now.whole.grammar after.now.whole.infos after.now.whole.kept.leaders slot.row slot.leaders) slots.now }
+    requires skips { PassesStill after.now.sample slots.now skips.now }
+    requires proper { All (λ slot. IsProper (form_of slot.row) slot.state) slots.now }
+    requires from { from ≤ to }
+    requires to { to ≤ length slots.now }
+    requires of_row { (k : ℕ) → from ≤ k → k < to → (slot_in slots.now k).row ≡ row }
+    ensures from { from ≤ result }
+    ensures to { result ≤ to }
+    ensures still { (k : ℕ) → from ≤ k → k < result → with_sample row (slot_in slots.now k).leaders after.now.sample (slot_in slots.now k).state ≡ (slot_in slots.now k).state }
+{
+    let mut place = passed_to(skips, from, to);
+    while place < to {
+        let end = looked_to(skips, place, to);
+        let next = run_to(after, row, slots, place, end);
+        if next < end {
+            return next;
+        }
+        place = passed_to(skips, end, to);
+    }
+    place
+}
+
+// Whether some slots of a row may be passed over, and others lie between them: lines. Bounds, comparisons and planes are looked at one by one.
+fn may_be_idle(row: RowId, skips: &[usize]) -> bool {
+    row.0 == 15 && !skips.is_empty()
+}
+
+/// Up to where the slots of a row from one place to another stay as they are.
+#[inline(always)]
+pub(crate) fn still_to(
+    after: &After<'_>,
+    skips: &[usize],
+    row: RowId,
+    slots: &[Slot],
+    from: usize,
+    to: usize,
+) -> usize
+    requires row { IsRow row }
+    requires placed { All (λ slot. IsPlaced after.now.whole.grammar after.now.whole.infos after.now.whole.kept.leaders slot.row slot.leaders) slots.now }
+    requires skips { PassesStill after.now.sample slots.now skips.now }
+    requires proper { All (λ slot. IsProper (form_of slot.row) slot.state) slots.now }
+    requires from { from ≤ to }
+    requires to { to ≤ length slots.now }
+    requires of_row { (k : ℕ) → from ≤ k → k < to → (slot_in slots.now k).row ≡ row }
+    ensures from { from ≤ result }
+    ensures to { result ≤ to }
+    ensures still { (k : ℕ) → from ≤ k → k < result → with_sample row (slot_in slots.now k).leaders after.now.sample (slot_in slots.now k).state ≡ (slot_in slots.now k).state }
+{
+    if may_be_idle(row, skips) {
+        still_among(after, skips, row, slots, from, to)
+    } else {
+        run_to(after, row, slots, from, to)
+    }
 }

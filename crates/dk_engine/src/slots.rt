@@ -212,9 +212,10 @@ impl Slots {
     pub(crate) fn note_skips(&mut self, alloc: Global)
         ensures { self.new ≡ self.old }
     {
-        let anew = self.moves.count();
+        let anew = self.moves.count(self.all.len());
         if anew || self.notes.skips.is_empty() {
             self.notes = notes_of(alloc, &self.moves, self.all.as_slice());
+            self.moves.renew();
         }
     }
 }

@@ -145,13 +145,9 @@ impl Events {
         ensures later { I.faults inputs.old ≤ I.faults inputs.new }
         ensures cause { (file : ℕ) → IsErrOf result (Fault.Read file) → Rose (I.faults inputs.old) (I.faults inputs.new) }
     {
-        match self.reader.next(arena, inputs, lines, self.ignores) {
-            Ok(Some(found)) => match self.take(arena, found) {
-                Ok(event) => Ok(Some(event)),
-                Err(fault) => Err(fault),
-            },
-            Ok(None) => Ok(None),
-            Err(fault) => Err(fault),
+        match self.reader.next(arena, inputs, lines, self.ignores)? {
+            Some(found) => Ok(Some(self.take(arena, found)?)),
+            None => Ok(None),
         }
     }
 
@@ -168,10 +164,7 @@ impl Events {
     {
         match found {
             Found::Nothing => Ok(Event::Nothing),
-            Found::Declaration { line, decl } => match self.declare(line, decl) {
-                Ok(declared) => Ok(event_of(declared)),
-                Err(fault) => Err(fault),
-            },
+            Found::Declaration { line, decl } => Ok(event_of(self.declare(line, decl)?)),
             Found::Sample {
                 point,
                 line,
@@ -198,13 +191,9 @@ impl Events {
             Ok(none) => none,
             Err(NoMemory) => return Err(Fault::NoMemory),
         };
-        match replace(self, none).with_declaration(line, decl) {
-            Ok((events, declared)) => {
-                *self = events;
-                Ok(declared)
-            }
-            Err(fault) => Err(fault),
-        }
+        let (events, declared) = replace(self, none).with_declaration(line, decl)?;
+        *self = events;
+        Ok(declared)
     }
 
     // The same, where the events are taken apart.
@@ -222,20 +211,18 @@ impl Events {
             vars,
             ignores,
         } = self;
-        match reader.declare(line, decl) {
-            Ok((reader, declared)) => match complete(alloc, reader.points(), vars) {
-                Ok(vars) => Ok((
-                    Events {
-                        alloc,
-                        reader,
-                        vars,
-                        ignores,
-                    },
-                    declared,
-                )),
-                Err(NoMemory) => Err(Fault::NoMemory),
-            },
-            Err(fault) => Err(fault),
+        let (reader, declared) = reader.declare(line, decl)?;
+        match complete(alloc, reader.points(), vars) {
+            Ok(vars) => Ok((
+                Events {
+                    alloc,
+                    reader,
+                    vars,
+                    ignores,
+                },
+                declared,
+            )),
+            Err(NoMemory) => Err(Fault::NoMemory),
         }
     }
 

@@ -1,7 +1,7 @@
 -- What is kept at the start.
 use Rattle.std.proofs.Common.{[], refl, arith}
 use Rattle.dk_graph.specs.Graphs.{edges, links, edges_from, edges_into}
-use Rattle.dk_graph.specs.Kept.{IsJoined, HasDepths}
+use Rattle.dk_graph.specs.Kept.{IsJoined, HasRanks}
 use Rattle.dk_graph.proofs.Turns.{Contains-nil}
 
 pub joined-nothing : IsJoined [] [] [] [] []
@@ -16,9 +16,9 @@ joined-nothing = record {
   few = omega arith;
 }
 
-pub depths-nothing : HasDepths [] []
+pub ranks-nothing : HasRanks [] []
 unfolding links edges
-depths-nothing = record {
+ranks-nothing = record {
   all = refl;
   risen = record {
     climbs = λ e there. absurd (Contains-nil e there);

@@ -1,20 +1,20 @@
--- Depths once one point more has come: its own is known, and its parents are still to be raised.
-use Rattle.std.proofs.Common.{◌≡◌, ◌∙◌, ℕ, zero, suc, ◌+◌, ◌<◌, ◌≤◌, ◌==◌, ◌⊎◌, inl, inr, ◌≢◌, Bool, true, false, nat_lt, max, List, [], ◌∷◌, ◌++◌, length, filter, slice_index, Contains, None, if◌then◌else◌, refl, ap, subst, sym, length-append, arith}
+-- Ranks once one point more has come: its own is known, and its parents are still to be raised.
+use Rattle.std.proofs.Common.{◌≡◌, ◌∙◌, ℕ, zero, suc, ◌+◌, ◌-◌, ◌<◌, ◌≤◌, ◌==◌, ◌⊎◌, inl, inr, ◌≢◌, Bool, true, false, nat_lt, max, List, [], ◌∷◌, ◌++◌, length, filter, slice_index, Contains, None, if◌then◌else◌, refl, ap, subst, sym, length-append, arith}
 use Rattle.std.proofs.lemmas.List.{get_or_append_left, get_or_at}
 use Rattle.std.proofs.lemmas.List.Elements.{Contains-append_left, Contains-push, Contains-push_cases}
 use Rattle.dk_graph.specs.Names.{place_of}
 use Rattle.dk_graph.specs.Graphs.{node_names, links, edges, edges_into, height}
-use Rattle.dk_graph.specs.Kept.{HasRisingDepths}
-use Rattle.dk_graph.specs.Raising.{Raising, IsSettled, IsReached, IsLow, depth}
+use Rattle.dk_graph.specs.Kept.{HasRisingRanks}
+use Rattle.dk_graph.specs.Raising.{Raising, IsSettled, IsReached, IsLow, first_rank, over}
 use Rattle.dk_graph.specs.Rows.{above_children}
 use Rattle.dk_graph.specs.declared.nodes.Edge.{Edge}
 use Rattle.dk_graph.specs.declared.nodes.Node.{Node}
 use Rattle.dk_graph.proofs.Added.{after, own, edges-push, own-edge, old-edge, into-other, into_parent}
-use Rattle.dk_graph.proofs.Heights.{height-within, highest-ge, eqb_true, eqb_same}
+use Rattle.dk_graph.proofs.Heights.{height-within, eqb_true, eqb_same}
 use Rattle.dk_graph.proofs.Links.{edge-has}
 use Rattle.dk_graph.proofs.Members.{Has, has-none, has-first, has-later, has-cons, has-contained, contained-has, has-append, has-left, has-filter, filter-has}
 use Rattle.dk_graph.proofs.Places.{length-map}
-use Rattle.dk_graph.proofs.Steps.{eq_or_not, lt_true, lt_false}
+use Rattle.dk_graph.proofs.Steps.{eq_or_not, lt_true, lt_false, reached-above}
 
 -- ---- above all children
 
@@ -39,7 +39,7 @@ above_children-ge ds (f ∷ es) e h below = elim (has-cons f es e h) [
     first true is same = let at : slice_index ds f.child.0 ≡ slice_index ds e.child.0 = ap (λ g. slice_index ds g.child.0) same in omega (arith, at)
     first false is same = absurd (cc)
 
--- it is 0, or one more than the depth of a child
+-- it is 0, or one more than the number of a child
 abbrev pub IsAbove : List ℕ → List Edge → ℕ → Type 0
 IsAbove ds es d = (d ≡ 0) ⊎ ((e : Edge) × Has es e × (e.child.0 < length ds) × (d ≡ slice_index ds e.child.0 + 1))
 
@@ -66,7 +66,7 @@ above_children-is ds (f ∷ es) = by (nat_lt f.child.0 (length ds)) refl (above_
     ]
     by false is rest = is-above-later ds f es (above_children ds es) rest
 
--- ---- one depth more
+-- ---- one rank more
 
 index-old : (ds : List ℕ) (d q : ℕ) → q < length ds → slice_index (ds ++ d ∷ []) q ≡ slice_index ds q
 index-old ds d q h = get_or_append_left ds (d ∷ []) 0 q h
@@ -87,7 +87,7 @@ split q n = by (nat_lt q n) refl (nat_lt n q) refl
     by false h true k = inr (inr (lt_true n q k))
     by false h false k = let less = lt_false q n h in let more = lt_false n q k in inr (inl (omega (arith, less, more)))
 
-module _ (ns : List Node) (n : Node) (none : place_of (node_names ns) n.name ≡ None) (ds queue : List ℕ) (kept : HasRisingDepths ns ds queue) where
+module _ (ns : List Node) (n : Node) (none : place_of (node_names ns) n.name ≡ None) (ds queue : List ℕ) (kept : HasRisingRanks ns ds queue) where
   -- edges that were there stay, and no other goes to a point that was there from one that was
   kept-edge : (e : Edge) → Has (edges ns) e → Has (edges (ns ++ n ∷ [])) e
   unfolding edges
@@ -110,9 +110,9 @@ module _ (ns : List Node) (n : Node) (none : place_of (node_names ns) n.name ≡
       (filter-has (into_parent e.parent.0) (after (node_names ns) n.name none (links ns)) e h (eqb_same e.parent.0)) in
       (has-filter (into_parent e.parent.0) (edges ns) e here).0
 
-  module _ (d : ℕ) (is : d ≡ above_children ds (edges_into (ns ++ n ∷ []) (length ns))) where
+  module _ (d : ℕ) (is : d ≡ max (first_rank - length ns) (above_children ds (edges_into (ns ++ n ∷ []) (length ns)))) where
     abbrev new : Raising
-    new = record { depths = ds ++ d ∷ []; queue = queue ++ length ns ∷ [] }
+    new = record { ranks = ds ++ d ∷ []; queue = queue ++ length ns ∷ [] }
 
     into-has : (e : Edge) → Has (edges (ns ++ n ∷ [])) e → e.parent.0 ≡ length ns → Has (edges_into (ns ++ n ∷ []) (length ns)) e
     unfolding edges_into
@@ -139,7 +139,7 @@ module _ (ns : List Node) (n : Node) (none : place_of (node_names ns) n.name ≡
         had e h = contained-has (edges ns) h.0 e h.1
 
         by : e.child.0 < length ds → slice_index (ds ++ d ∷ []) e.child.0 ≡ slice_index ds e.child.0
-            → IsSettled (record { depths = ds; queue = queue }) e.child.0 e.parent.0 → e.parent.0 < length ns → IsSettled new e.child.0 e.parent.0
+            → IsSettled (record { ranks = ds; queue = queue }) e.child.0 e.parent.0 → e.parent.0 < length ns → IsSettled new e.child.0 e.parent.0
         by child at-child (inl climbs) parent =
             let at-parent : slice_index (ds ++ d ∷ []) e.parent.0 ≡ slice_index ds e.parent.0 = index-old ds d e.parent.0 (omega (arith, parent, kept.all)) in
             inl (omega (arith, climbs, at-child, at-parent))
@@ -153,49 +153,54 @@ module _ (ns : List Node) (n : Node) (none : place_of (node_names ns) n.name ≡
           | inr mine ↦ inr (subst (Contains (queue ++ length ns ∷ [])) (sym (own-edge ns n none e mine).0) (Contains-push queue (length ns)))
         ]
 
-    reached-old : (q : ℕ) → q < length ds → slice_index ds q ≤ height (edges (ns ++ n ∷ [])) (slice_index ds q) q
-    reached-old q h =
-        let first : slice_index ds q ≤ height (edges ns) (slice_index ds q) q = kept.rising.reached q in
-        omega (arith, first, height-within (edges ns) (edges (ns ++ n ∷ [])) (λ k e at. kept-edge e (k, at)) (slice_index ds q) q)
+    reached-old : (q : ℕ) → slice_index ds q - first_rank ≤ height (edges (ns ++ n ∷ [])) (slice_index ds q - first_rank) q
+    reached-old q =
+        let first : slice_index ds q - first_rank ≤ height (edges ns) (slice_index ds q - first_rank) q = kept.rising.reached q in
+        omega (arith, first, height-within (edges ns) (edges (ns ++ n ∷ [])) (λ k e at. kept-edge e (k, at)) (slice_index ds q - first_rank) q)
 
-    reached-new : d ≤ height (edges (ns ++ n ∷ [])) d (length ns)
-    reached-new = by (above_children-is ds (edges_into (ns ++ n ∷ []) (length ns)))
+    reached-new : d - first_rank ≤ height (edges (ns ++ n ∷ [])) (d - first_rank) (length ns)
+    reached-new = elim (max-cases (first_rank - length ns) (above_children ds (edges_into (ns ++ n ∷ []) (length ns)))) [
+      | inl least ↦ omega (arith, is, least)
+      | inr above ↦ by (is ∙ above) (above_children-is ds (edges_into (ns ++ n ∷ []) (length ns)))
+    ]
       where
-        plus-one : (k : ℕ) → suc k ≡ k + 1
-        plus-one k = omega arith
-
-        by : IsAbove ds (edges_into (ns ++ n ∷ []) (length ns)) (above_children ds (edges_into (ns ++ n ∷ []) (length ns))) → d ≤ height (edges (ns ++ n ∷ [])) d (length ns)
-        by (inl zero-is) = omega (arith, is, zero-is)
-        by (inr some) =
+        by : d ≡ above_children ds (edges_into (ns ++ n ∷ []) (length ns))
+            → IsAbove ds (edges_into (ns ++ n ∷ []) (length ns)) (above_children ds (edges_into (ns ++ n ∷ []) (length ns)))
+            → d - first_rank ≤ height (edges (ns ++ n ∷ [])) (d - first_rank) (length ns)
+        by same (inl none) = omega (arith, same, none)
+        by same (inr some) =
             let e : Edge = some.0 in
             let found = has-into e some.1 in
-            let more : slice_index ds e.child.0 + 1 ≤ height (edges (ns ++ n ∷ [])) (suc (slice_index ds e.child.0)) e.parent.0 =
-            omega (arith, highest-ge (height (edges (ns ++ n ∷ [])) (slice_index ds e.child.0)) (edges (ns ++ n ∷ [])) found.0.0 e found.0.1, reached-old e.child.0 some.2) in
-            let same : suc (slice_index ds e.child.0) ≡ d = plus-one (slice_index ds e.child.0) ∙ sym (is ∙ some.3) in
-            let here : d ≤ height (edges (ns ++ n ∷ [])) d e.parent.0 =
-            subst (λ k. k ≤ height (edges (ns ++ n ∷ [])) k e.parent.0) same (omega (arith, more)) in
-            subst (λ p. d ≤ height (edges (ns ++ n ∷ [])) d p) found.1 here
+            let more : slice_index ds e.child.0 + 1 - first_rank ≤ height (edges (ns ++ n ∷ [])) (slice_index ds e.child.0 + 1 - first_rank) e.parent.0 =
+            reached-above (edges (ns ++ n ∷ [])) e (slice_index ds e.child.0) found.0 (reached-old e.child.0) in
+            let here : d - first_rank ≤ height (edges (ns ++ n ∷ [])) (d - first_rank) e.parent.0 =
+            subst (λ k. k - first_rank ≤ height (edges (ns ++ n ∷ [])) (k - first_rank) e.parent.0) (sym (same ∙ some.3)) more in
+            subst (λ p. d - first_rank ≤ height (edges (ns ++ n ∷ [])) (d - first_rank) p) found.1 here
 
-    reached : IsReached (edges (ns ++ n ∷ [])) (depth new)
+    reached : IsReached (edges (ns ++ n ∷ [])) (over new)
     reached q = elim (split q (length ds)) [
-      | inl old ↦ subst (λ k. k ≤ height (edges (ns ++ n ∷ [])) k q) (sym (index-old ds d q old)) (reached-old q old)
+      | inl old ↦ subst (λ k. k - first_rank ≤ height (edges (ns ++ n ∷ [])) (k - first_rank) q) (sym (index-old ds d q old)) (reached-old q)
       | inr rest ↦ elim rest [
-        | inl same ↦ subst (λ k. k ≤ height (edges (ns ++ n ∷ [])) k q) (sym (index-new ds d q same))
-            (subst (λ p. d ≤ height (edges (ns ++ n ∷ [])) d p) (sym (same ∙ kept.all)) reached-new)
+        | inl same ↦ subst (λ k. k - first_rank ≤ height (edges (ns ++ n ∷ [])) (k - first_rank) q) (sym (index-new ds d q same))
+            (subst (λ p. d - first_rank ≤ height (edges (ns ++ n ∷ [])) (d - first_rank) p) (sym (same ∙ kept.all)) reached-new)
         | inr past ↦ let none = index-past (ds ++ d ∷ []) q (omega (arith, past, length-append ds (d ∷ []))) in omega (arith, none)
       ]
     ]
 
-    low-new : d < length ns + 1
-    low-new = by (above_children-is ds (edges_into (ns ++ n ∷ []) (length ns)))
+    low-new : d < first_rank + (length ns + 1)
+    low-new = elim (max-cases (first_rank - length ns) (above_children ds (edges_into (ns ++ n ∷ []) (length ns)))) [
+      | inl least ↦ omega (arith, is, least)
+      | inr above ↦ by (is ∙ above) (above_children-is ds (edges_into (ns ++ n ∷ []) (length ns)))
+    ]
       where
-        by : IsAbove ds (edges_into (ns ++ n ∷ []) (length ns)) (above_children ds (edges_into (ns ++ n ∷ []) (length ns))) → d < length ns + 1
-        by (inl zero-is) = omega (arith, is, zero-is)
-        by (inr some) = let low : slice_index ds some.0.child.0 < length ns = kept.rising.low some.0.child.0 some.2 in omega (arith, is, some.3, low)
+        by : d ≡ above_children ds (edges_into (ns ++ n ∷ []) (length ns))
+            → IsAbove ds (edges_into (ns ++ n ∷ []) (length ns)) (above_children ds (edges_into (ns ++ n ∷ []) (length ns))) → d < first_rank + (length ns + 1)
+        by same (inl none) = omega (arith, same, none)
+        by same (inr some) = let low : slice_index ds some.0.child.0 < first_rank + length ns = kept.rising.low some.0.child.0 some.2 in omega (arith, same, some.3, low)
 
-    low : IsLow (length (ns ++ n ∷ [])) (ds ++ d ∷ [])
+    low : IsLow (first_rank + length (ns ++ n ∷ [])) (ds ++ d ∷ [])
     low q h = elim (split q (length ds)) [
-      | inl old ↦ let less : slice_index ds q < length ns = kept.rising.low q old in omega (arith, index-old ds d q old, less, length-append ns (n ∷ []))
+      | inl old ↦ let less : slice_index ds q < first_rank + length ns = kept.rising.low q old in omega (arith, index-old ds d q old, less, length-append ns (n ∷ []))
       | inr rest ↦ elim rest [
         | inl same ↦ omega (arith, index-new ds d q same, low-new, length-append ns (n ∷ []))
         | inr past ↦ absurd (omega (arith, past, h, length-append ds (d ∷ [])))
@@ -208,7 +213,7 @@ module _ (ns : List Node) (n : Node) (none : place_of (node_names ns) n.name ≡
       | inr same ↦ omega (arith, same, kept.all, length-append ds (d ∷ []))
     ]
 
-    pub rising-push : HasRisingDepths (ns ++ n ∷ []) (ds ++ d ∷ []) (queue ++ length ns ∷ [])
+    pub rising-push : HasRisingRanks (ns ++ n ∷ []) (ds ++ d ∷ []) (queue ++ length ns ∷ [])
     rising-push = record {
       all = omega (arith, kept.all, length-append ds (d ∷ []), length-append ns (n ∷ []));
       rising = record {

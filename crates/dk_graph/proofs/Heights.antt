@@ -1,24 +1,15 @@
--- Heights over edges, and depths that climb along them.
-use Rattle.std.proofs.Common.{◌≡◌, ℕ, zero, suc, ◌+◌, ◌-◌, ◌<◌, ◌≤◌, Bool, true, false, ◌==◌, max, List, [], ◌∷◌, Some, slice_get, if◌then◌else◌, refl, ap, subst, sym, true≢false, arith}
+-- Heights over edges.
+use Rattle.std.proofs.Common.{◌≡◌, ℕ, zero, suc, ◌+◌, ◌-◌, ◌≤◌, Bool, true, false, ◌==◌, max, List, [], ◌∷◌, Some, slice_get, if◌then◌else◌, refl, ap, subst, sym, true≢false, arith}
 use Rattle.dk_graph.specs.declared.nodes.Edge.{Edge}
 use Rattle.dk_graph.proofs.Places.{some-injective}
 use Rattle.dk_graph.proofs.Members.{Has}
 use Rattle.dk_graph.specs.Graphs.{highest, height}
-use Rattle.dk_graph.specs.Raising.{IsReached}
-
--- each edge's parent stands above its child
-abbrev pub Climbs : (ℕ → ℕ) → List Edge → Type 0
-Climbs d [] = Unit {0}
-Climbs d (e ∷ es) = (d e.child.0 < d e.parent.0) × Climbs d es
 
 zero-plus : (n : ℕ) → 0 + n ≡ n
 zero-plus n = omega arith
 
 suc-plus : (m n : ℕ) → suc (m + n) ≡ suc m + n
 suc-plus m n = omega arith
-
-minus-plus : (n d : ℕ) → d ≤ n → n - d + d ≡ n
-minus-plus n d le = omega (arith, le)
 
 pub eqb_true : (m n : ℕ) → m == n ≡ true → m ≡ n
 eqb_true m n h = grind (arith, h)
@@ -37,16 +28,6 @@ pick-first false x y p = absurd (true≢false (sym p))
 
 pub eqb_same : (n : ℕ) → n == n ≡ true
 eqb_same n = grind arith
-
-pub highest-le : (h d : ℕ → ℕ) (q : ℕ) (es : List Edge) → Climbs d es → ((p : ℕ) → h p ≤ d p) → highest h q es ≤ d q
-highest-le h d q [] c le = omega arith
-highest-le h d q (e ∷ es) c le = pick-le (e.parent.0 == q) (h e.child.0 + 1) (highest h q es) (d q)
-    (λ p. let here : d e.child.0 < d q = subst (λ r. d e.child.0 < d r) (eqb_true e.parent.0 q p) c.0 in omega (arith, here, le e.child.0))
-    (highest-le h d q es c.1 le)
-
-pub height-le : (d : ℕ → ℕ) (es : List Edge) → Climbs d es → (n q : ℕ) → height es n q ≤ d q
-height-le d es c zero q = omega arith
-height-le d es c (suc n) q = highest-le (height es n) d q es c (height-le d es c n)
 
 pub highest-ge : (h : ℕ → ℕ) (es : List Edge) (k : ℕ) (e : Edge) → slice_get es k ≡ Some e → h e.child.0 + 1 ≤ highest h e.parent.0 es
 highest-ge h [] k e at = absurd (cc)
@@ -78,8 +59,3 @@ height-suc es (suc n) q = highest-within (height es n) (height es (suc n)) q es 
 pub height-more : (es : List Edge) (m n q : ℕ) → height es n q ≤ height es (m + n) q
 height-more es zero n q = omega (arith, ap (λ k. height es k q) (zero-plus n))
 height-more es (suc m) n q = omega (arith, height-more es m n q, height-suc es (m + n) q, ap (λ k. height es k q) (suc-plus m n))
-
--- depths that climb and are reached are the heights
-pub depths-exact : (d : ℕ → ℕ) (es : List Edge) → Climbs d es → IsReached es d → (n q : ℕ) → d q ≤ n → height es n q ≡ d q
-depths-exact d es c reached n q le =
-    omega (arith, height-le d es c n q, reached q, height-more es (n - d q) (d q) q, ap (λ k. height es k q) (minus-plus n (d q) le))

@@ -7,7 +7,7 @@ pub mod Links
 pub mod Heights
 pub mod Steps
 pub mod Turns
-pub mod Depths
+pub mod LongPaths
 pub mod Bounds
 pub mod Waits
 pub mod Orders
@@ -17,4 +17,5 @@ pub mod Added
 pub mod Joining
 pub mod Climbing
 pub mod Walks
+pub mod Ranked
 mod Examples

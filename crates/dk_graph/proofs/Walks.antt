@@ -8,7 +8,7 @@ use Rattle.dk_graph.specs.Paths.{IsPath, HasPathBack, HasCycleLaw, IsLongest}
 use Rattle.dk_graph.specs.declared.nodes.Edge.{Edge}
 use Rattle.dk_graph.specs.declared.nodes.Node.{Node}
 use Rattle.dk_graph.proofs.Climbing.{max-cases}
-use Rattle.dk_graph.proofs.Depths.{below-true}
+use Rattle.dk_graph.proofs.LongPaths.{below-true}
 use Rattle.dk_graph.proofs.Heights.{highest-ge, height-more, eqb_true}
 use Rattle.dk_graph.proofs.Links.{edge-below}
 use Rattle.dk_graph.proofs.Members.{Has, has-contained, contained-has, has-first, has-later}

@@ -1,5 +1,5 @@
 -- Graphs of named points: a point has links, each the name of a parent, and a link is an edge once a point has that name.
-use Rattle.std.specs.Prelude.{◌≡◌, ℕ, zero, suc, ◌+◌, ◌<◌, ◌==◌, ◌||◌, Bool, true, false, nat_le, max, List, [], ◌∷◌, length, map, filter, filter_map, flat_map, Contains, Option, Some, None, option_map, if◌then◌else◌}
+use Rattle.std.specs.Prelude.{◌≡◌, ℕ, zero, suc, ◌+◌, ◌<◌, ◌==◌, ◌||◌, Bool, true, false, slice_index, nat_le, max, List, [], ◌∷◌, length, map, filter, filter_map, flat_map, Contains, Option, Some, None, option_map, if◌then◌else◌}
 use Rattle.std.specs.List.{enumerate_from}
 use Rattle.dk_base.specs.declared.kinds.PointId.{PointId}
 use Rattle.dk_graph.specs.Names.{place_of}
@@ -79,3 +79,8 @@ GraphGrows None ns = has_cycle ns ≡ true
 -- The depth of a child is less than that of its parent.
 abbrev pub ParentsAreDeeper : List Node → Type 0
 ParentsAreDeeper ns = (e : Edge) → Contains (edges ns) e → depth_of ns e.child.0 < depth_of ns e.parent.0
+
+-- a number for each point, of which each parent's is greater than its children's
+pub record AreRanks (ns : List Node) (ranks : List ℕ) : Type 0 where
+  pub all : length ranks ≡ length ns
+  pub climb : (e : Edge) → Contains (edges ns) e → slice_index ranks e.child.0 < slice_index ranks e.parent.0

@@ -1,4 +1,4 @@
--- What is kept beside the points: their edges by child and by parent, the links that wait for their parents, and the depths.
+-- What is kept beside the points: their edges by child and by parent, the links that wait for their parents, and the ranks.
 use Rattle.std.specs.Prelude.{◌≡◌, ℕ, ◌≤◌, List, [], ◌∷◌, length, map, filter, is_none, None, bytes_eq, if◌then◌else◌}
 use Rattle.dk_graph.specs.Names.{place_of}
 use Rattle.dk_graph.specs.Notes.{noted, noted_under}
@@ -32,11 +32,11 @@ pub record IsJoined (ns : List Node) (all : List (List ℕ))
   pub waits : (name : List ℕ) → place_of all name ≡ None → noted_under waiting name ≡ links_to ns name
   pub few : length ns ≤ 65535
 
-pub record HasDepths (ns : List Node) (depths : List ℕ) : Type 0 where
-  pub all : length depths ≡ length ns
-  pub risen : IsRisen (length ns) (edges ns) depths
+pub record HasRanks (ns : List Node) (ranks : List ℕ) : Type 0 where
+  pub all : length ranks ≡ length ns
+  pub risen : IsRisen (length ns) (edges ns) ranks
 
--- depths before their parents are raised
-pub record HasRisingDepths (ns : List Node) (depths queue : List ℕ) : Type 0 where
-  pub all : length depths ≡ length ns
-  pub rising : IsRising (length ns) (edges ns) (record { depths = depths; queue = queue })
+-- ranks before their parents are raised
+pub record HasRisingRanks (ns : List Node) (ranks queue : List ℕ) : Type 0 where
+  pub all : length ranks ≡ length ns
+  pub rising : IsRising (length ns) (edges ns) (record { ranks = ranks; queue = queue })

@@ -32,7 +32,7 @@ abbrev pub spread : List (List Edge) → List Edge → List (List Edge)
 spread into [] = into
 spread into (e ∷ es) = spread (slice_set into e.parent.0 (row into e.parent.0 ++ e ∷ [])) es
 
--- one more than the depth of the deepest child; children without a depth do not count
+-- one more than the greatest number of a child; children without a number do not count
 abbrev pub above_children : List ℕ → List Edge → ℕ
 above_children ds [] = 0
 above_children ds (e ∷ es) =

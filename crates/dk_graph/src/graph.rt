@@ -1,8 +1,9 @@
-// Points with their edges and depths, without cycles.
+// Points with their edges and ranks, without cycles.
 ghost use Rattle.std.specs.Prelude.{◌≡◌, ◌∷◌, ◌++◌, [], ◌<◌, ◌≤◌, length, None, Some, IfOk, IfSome, slice_get, option_map, false, bytes_eq};
 ghost use Rattle.dk_graph.specs.Names.{place_of};
-ghost use Rattle.dk_graph.specs.Graphs.{node_names, edges_from, edges_into, depth_of, has_cycle, place_in, GraphGrows, ParentsAreDeeper};
+ghost use Rattle.dk_graph.specs.Graphs.{node_names, edges_from, edges_into, depth_of, has_cycle, place_in, AreRanks, GraphGrows, ParentsAreDeeper};
 
+use crate::depths::depth_by_paths;
 use crate::edges::Edges;
 use crate::growing::Growing;
 use crate::nodes::{Edge, Node};
@@ -10,23 +11,23 @@ use dk_base::{NoMemory, PointId};
 use std::alloc::Global;
 use std::marker::Model;
 
-/// Named points with their edges and depths. There is no cycle, and there are at most 65,535 points.
+/// Named points with their edges and ranks. There is no cycle, and there are at most 65,535 points.
 #[derive(Drop)]
 pub struct Graph {
     pub(crate) edges: Edges,
-    pub(crate) depths: Vec<u32>,
+    pub(crate) ranks: Vec<u32>,
 }
 
 impl Model for Graph {
     ghost use Rattle.std.specs.Prelude.{List};
     ghost use Rattle.dk_graph.specs.declared.nodes.Node.{Node};
-    ghost use Rattle.dk_graph.specs.Kept.{HasDepths};
+    ghost use Rattle.dk_graph.specs.Kept.{HasRanks};
 
     ghost Value = { List Node };
 
     ghost view = { λ g. g.edges };
 
-    ghost invariant = { λ g. HasDepths g.edges g.depths.items };
+    ghost invariant = { λ g. HasRanks g.edges g.ranks.items };
 }
 
 impl Graph {
@@ -36,7 +37,7 @@ impl Graph {
     {
         Ok(Graph {
             edges: Edges::new(alloc),
-            depths: Vec::new(alloc),
+            ranks: Vec::new(alloc),
         })
     }
 
@@ -89,13 +90,21 @@ impl Graph {
         self.edges.edges_into(p)
     }
 
-    /// The number of edges on the longest path that ends in a point. So a child's depth is less than its parent's.
+    /// A number for each point, in order, of which each parent's is greater than its children's. They take no memory.
+    pub fn ranks(&self) -> &[u32]
+        ensures { AreRanks self.now result.now }
+    {
+        self.ranks.as_slice()
+    }
+
+    /// The number of edges on the longest path that ends in a point. So a child's depth is less than its parent's. It goes down all paths
+    /// that end there; `ranks` are at hand.
     pub fn depth(&self, p: PointId) -> u32
         requires { p.0 < length self.now }
         ensures depth { result ≡ depth_of self.now p.0 }
         ensures parents { ParentsAreDeeper self.now }
     {
-        self.depths[p.0 as usize]
+        depth_by_paths(&self.edges, self.ranks.as_slice(), p)
     }
 
     /// One point more, which goes last. None where the edges would have a cycle, also one of the point to itself.

@@ -6,7 +6,7 @@ ghost use Rattle.dk_graph.specs.Graphs.{node_names, GraphGrows};
 use crate::edges::Edges;
 use crate::graph::Graph;
 use crate::nodes::Node;
-use crate::raising::{depth_above, raise_all};
+use crate::raising::{FIRST_RANK, number_above, raise_all};
 use dk_base::{NoMemory, PointId};
 use std::collections::VecDeque;
 use std::marker::Model;
@@ -15,20 +15,20 @@ use std::marker::Model;
 #[derive(Drop)]
 pub struct Growing {
     edges: Edges,
-    depths: Vec<u32>,
+    ranks: Vec<u32>,
     queue: VecDeque<u32>,
 }
 
 impl Model for Growing {
     ghost use Rattle.std.specs.Prelude.{List};
     ghost use Rattle.dk_graph.specs.declared.nodes.Node.{Node};
-    ghost use Rattle.dk_graph.specs.Kept.{HasRisingDepths};
+    ghost use Rattle.dk_graph.specs.Kept.{HasRisingRanks};
 
     ghost Value = { List Node };
 
     ghost view = { λ g. g.edges };
 
-    ghost invariant = { λ g. HasRisingDepths g.edges g.depths.items g.queue.items };
+    ghost invariant = { λ g. HasRisingRanks g.edges g.ranks.items g.queue.items };
 }
 
 impl Growing {
@@ -36,16 +36,16 @@ impl Growing {
     pub fn new(graph: Graph) -> Growing
         ensures { result ≡ graph }
     {
-        let Graph { edges, depths } = graph;
+        let Graph { edges, ranks } = graph;
         let queue = VecDeque::new(edges.alloc());
         Growing {
             edges,
-            depths,
+            ranks,
             queue,
         }
     }
 
-    // One point more, which goes last. Its own depth is known; its parents are still to be raised.
+    // One point more, which goes last. Its own rank is known; its parents are still to be raised.
     pub fn with(self, node: Node) -> Result<Growing, NoMemory>
         requires new { place_of (node_names self) node.name ≡ None }
         requires few { length self < 65535 }
@@ -53,17 +53,18 @@ impl Growing {
     {
         let Growing {
             edges,
-            mut depths,
+            mut ranks,
             mut queue,
         } = self;
         let place = edges.len();
         let edges = edges.with(node)?;
-        let depth = depth_above(edges.edges_into(PointId(place)), depths.as_slice());
-        depths.push(depth)?;
+        let children = edges.edges_into(PointId(place));
+        let rank = number_above(FIRST_RANK - place, children, ranks.as_slice());
+        ranks.push(rank)?;
         queue.push_back(place)?;
         Ok(Growing {
             edges,
-            depths,
+            ranks,
             queue,
         })
     }
@@ -74,11 +75,11 @@ impl Growing {
     {
         let Growing {
             edges,
-            mut depths,
+            mut ranks,
             queue,
         } = self;
-        if raise_all(&edges, depths.as_mut_slice(), queue)? {
-            Ok(Some(Graph { edges, depths }))
+        if raise_all(&edges, ranks.as_mut_slice(), queue)? {
+            Ok(Some(Graph { edges, ranks }))
         } else {
             Ok(None)
         }

@@ -1,23 +1,11 @@
--- A child's depth is less than its parent's.
-use Rattle.std.specs.Prelude.{◌≡◌, ◌<◌, ◌==◌, ◌++◌, ℕ, true, false, All, Contains, List, [], ◌∷◌, filter, slice_index_or, refl}
-use Rattle.std.proofs.Common.{arith, subst}
-use Rattle.std.proofs.lemmas.List.{length-append}
+-- Edges into a point, from children of less depth.
+use Rattle.std.specs.Prelude.{◌≡◌, ◌<◌, ◌==◌, ℕ, true, All, Contains, List, filter, slice_index_or}
+use Rattle.std.proofs.Common.{subst}
 use Rattle.std.proofs.lemmas.List.Elements.{All-contains_itself, All-filter, filter_passes}
-use Rattle.dk_graph.specs.Graphs.{ParentsAreDeeper, depth_of, edges, edges_into, has_cycle}
-use Rattle.dk_graph.specs.Paths.{IsPath}
+use Rattle.dk_graph.specs.Graphs.{ParentsAreDeeper, depth_of, edges, edges_into}
 use Rattle.dk_graph.specs.declared.nodes.Edge.{Edge}
 use Rattle.dk_graph.specs.declared.nodes.Node.{Node}
 use Rattle.dk_graph.proofs.Heights.{eqb_true}
-use Rattle.dk_graph.proofs.Links.{edge-below}
-use Rattle.dk_graph.proofs.Walks.{longest, path-append}
-
-pub deeper : (ns : List Node) → has_cycle ns ≡ false → ParentsAreDeeper ns
-deeper ns free e there =
-    let below = edge-below ns e there in
-    let to_child = (longest ns free e.child.0 below.0).reached in
-    let whole : IsPath (edges ns) to_child.0 (to_child.1 ++ e ∷ []) e.parent.0 = path-append (edges ns) to_child.0 to_child.1 e.child.0 (e ∷ []) e.parent.0 to_child.2 (there, refl, refl) in
-    let le = (longest ns free e.parent.0 below.1).longest to_child.0 (to_child.1 ++ e ∷ []) whole in
-    omega (arith, le, to_child.3, length-append to_child.1 (e ∷ []))
 
 -- ---- of the edges into a point
 -- an edge into a point, from a child of less depth

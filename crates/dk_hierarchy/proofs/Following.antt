@@ -1,22 +1,31 @@
 -- What a function needs that follows the ways of a level.
-use Rattle.std.specs.Prelude.{◌≡◌, ◌<◌, ◌≤◌, ◌+◌, ◌++◌, ℕ, All, List, [], ◌∷◌, fold, length, refl, take}
-use Rattle.std.proofs.Common.{◌∙◌, ap, arith, get_or, subst, sym}
-use Rattle.std.proofs.lemmas.List.{take_more}
-use Rattle.dk_graph.specs.Graphs.{ParentsAreDeeper, depth_of, edges_into}
+use Rattle.std.specs.Prelude.{◌≡◌, ◌==◌, ◌<◌, ◌+◌, ◌++◌, ℕ, All, Contains, List, [], ◌∷◌, flat_map, fold, length, refl, slice_index, take}
+use Rattle.std.proofs.Common.{◌∙◌, ap, get_or, subst, sym}
+use Rattle.std.proofs.lemmas.List.{append-nil, append_assoc, take_more}
+use Rattle.std.proofs.lemmas.List.Concat.{flat_map-append}
+use Rattle.std.proofs.lemmas.List.Elements.{All-append, All-contains_itself, All-cons, All-filter, All-head, All-nil, filter_passes}
+use Rattle.dk_graph.specs.Graphs.{AreRanks, ParentsAreDeeper, edges, edges_into}
 use Rattle.dk_graph.specs.declared.nodes.Edge.{Edge}
+use Rattle.dk_graph.specs.declared.nodes.Node.{Node}
+use Rattle.dk_graph.proofs.Heights.{eqb_true}
 use Rattle.dk_points.proofs.EndsOfEdges.{edges-into}
 use Rattle.dk_points.proofs.Nodes.{length-nodes}
 use Rattle.dk_points.specs.Links.{nodes}
 use Rattle.dk_points.specs.Table.{Point}
-use Rattle.dk_hierarchy.proofs.Deeper.{into-from-below}
-use Rattle.dk_hierarchy.proofs.Descending.{way_deep, way_done, way_is, ways_below_long}
-use Rattle.dk_hierarchy.specs.Descent.{IsDescent, with_way_at, with_ways_below}
-use Rattle.dk_hierarchy.specs.Ways.{way_below}
+use Rattle.dk_hierarchy.proofs.Descending.{IsInto, begun, below_is_way, more_paths, others_are, way_done, way_is}
+use Rattle.dk_hierarchy.proofs.MoreWays.{IsLevel, all_parts, all_with_way_at, below_with_way, each_added, each_holds, levels_with_way, through_append, way_at_added}
+use Rattle.dk_hierarchy.proofs.Telling.{Samples, same_append, same_as, same_inner, same_refl, same_trans}
+use Rattle.dk_hierarchy.specs.Descent.{AreBelow, AreLevels, IsDescent, IsWayDown, first_way, ways_in, with_way_at, with_ways_below}
+use Rattle.dk_hierarchy.specs.Samples.{all_vars_of}
+use Rattle.dk_hierarchy.specs.Ways.{SamplesTellTheSame, samples_through, samples_through_all, way_below}
 use Rattle.dk_hierarchy.specs.declared.way.Way.{Way}
 
--- the levels with one way more for each of some edges
-abbrev pub with_each : List Point → Way → List (List Way) → List Edge → List (List Way)
-with_each ps way levels es = fold (λ ls e. with_way_at ps ls (way_below ps way e)) levels es
+-- one way more for an edge, and for each of some edges
+abbrev pub with_edge : List Point → List ℕ → Way → List (ℕ × List Way) → Edge → List (ℕ × List Way)
+with_edge ps ranks way levels e = with_way_at levels (slice_index ranks e.child.0) (way_below ps way e)
+
+abbrev pub with_each : List Point → List ℕ → Way → List (ℕ × List Way) → List Edge → List (ℕ × List Way)
+with_each ps ranks way levels es = fold (with_edge ps ranks way) levels es
 
 -- edges into a point are between points of the table
 pub into_all : (ps : List Point) (p : ℕ) → All (λ (e : Edge). (e.child.0 < length ps) × (e.parent.0 ≡ p)) (edges_into (nodes ps) p)
@@ -27,35 +36,114 @@ fold_more : {A B : Type 0} (f : A → B → A) (a : A) (xs : List B) (x : B) →
 fold_more f a [] x = refl
 fold_more f a (y ∷ xs) x = fold_more f (f a y) xs x
 
-pub one_edge_more : (ps : List Point) (way : Way) (levels : List (List Way)) (es : List Edge) (i : ℕ) (d : Edge) → i < length es
-    → with_way_at ps (with_each ps way levels (take i es)) (way_below ps way (get_or es i d)) ≡ with_each ps way levels (take (i + 1) es)
-one_edge_more ps way levels es i d within =
-    sym (ap (with_each ps way levels) (take_more es i d within) ∙ fold_more (λ ls e. with_way_at ps ls (way_below ps way e)) levels (take i es) (get_or es i d))
+pub one_edge_more : (ps : List Point) (ranks : List ℕ) (way : Way) (levels : List (ℕ × List Way)) (es : List Edge) (i : ℕ) (d : Edge) → i < length es
+    → with_edge ps ranks way (with_each ps ranks way levels (take i es)) (get_or es i d) ≡ with_each ps ranks way levels (take (i + 1) es)
+one_edge_more ps ranks way levels es i d within =
+    sym (ap (with_each ps ranks way levels) (take_more es i d within) ∙ fold_more (with_edge ps ranks way) levels (take i es) (get_or es i d))
 
--- an edge's child has a level of its own depth
-pub child_has_level : (ps : List Point) → ParentsAreDeeper (nodes ps) → (way : Way) (levels : List (List Way)) → depth_of (nodes ps) way.point.0 ≤ length levels
-    → (i : ℕ) (e : Edge) → i < length (edges_into (nodes ps) way.point.0) → e ≡ get_or (edges_into (nodes ps) way.point.0) i e
-    → depth_of (nodes ps) e.child.0 < length (with_each ps way levels (take i (edges_into (nodes ps) way.point.0)))
-child_has_level ps deep way levels long i e within is =
-    let es = edges_into (nodes ps) way.point.0 in
-    let below = into-from-below (nodes ps) deep way.point.0 i e within in
-    let less : depth_of (nodes ps) e.child.0 < depth_of (nodes ps) way.point.0 = subst (λ (x : Edge). depth_of (nodes ps) x.child.0 < depth_of (nodes ps) way.point.0) (sym is) below.1 in
-    let same = ways_below_long ps deep 0 way levels (take i es) in
-    omega (arith, less, long, same)
+-- ---- ranks down an edge
+-- an edge into a point of a rank, from one of a lower rank
+abbrev pub IsFromLower : List ℕ → ℕ → Edge → Type 0
+IsFromLower ranks rank e = slice_index ranks e.child.0 < rank
 
--- ---- one way of the deepest level
-module _ (ps : List Point) (deep : ParentsAreDeeper (nodes ps)) (p : ℕ) (ways : List Way) (levels : List (List Way)) (old level : List Way) (way : Way) (popped : old ≡ level ++ way ∷ []) (is : IsDescent ps p ways (levels ++ old ∷ [])) where
-  whole : IsDescent ps p ways (levels ++ (level ++ way ∷ []) ∷ [])
-  whole = subst (λ l. IsDescent ps p ways (levels ++ l ∷ [])) popped is
+pub into_from_lower : (ns : List Node) (ranks : List ℕ) → AreRanks ns ranks → (q : ℕ) → All (IsFromLower ranks (slice_index ranks q)) (edges_into ns q)
+unfolding edges_into
+into_from_lower ns ranks are q k d lt =
+    let here : Edge = get_or (edges_into ns q) k d in
+    let same : here.parent.0 ≡ q = eqb_true here.parent.0 q (filter_passes (λ (e : Edge). e.parent.0 == q) (edges ns) k d lt) in
+    let climb = are.climb here (All-filter (λ (e : Edge). e.parent.0 == q) (Contains (edges ns)) (edges ns) (All-contains_itself (edges ns)) k d lt) in
+    subst (λ p. slice_index ranks here.child.0 < slice_index ranks p) same climb
+
+-- ---- one way of a level
+module _ (ps : List Point) (deep : ParentsAreDeeper (nodes ps)) (ranks : List ℕ) (are : AreRanks (nodes ps) ranks) (p : ℕ)
+    (ways : List Way) (levels : List (ℕ × List Way)) (old level : List Way) (way : Way) (popped : old ≡ level ++ way ∷ [])
+    (is : IsDescent ps p ways (ways_in levels ++ old)) where
+  abbrev es : List Edge
+  es = edges_into (nodes ps) way.point.0
+
+  abbrev front : List Way
+  front = ways_in levels ++ level
+
+  whole : IsDescent ps p ways (front ++ way ∷ [])
+  whole = subst (IsDescent ps p ways) (ap (λ ws. ways_in levels ++ ws) popped ∙ sym (append_assoc (ways_in levels) level (way ∷ []))) is
 
   pub point_within : way.point.0 < length ps
-  point_within = (way_is ps deep p ways levels level way whole).within
+  point_within = (way_is ps p ways front [] way whole).within
 
-  pub level_deep : depth_of (nodes ps) way.point.0 ≤ length levels
-  level_deep = let same = way_deep ps deep p ways levels level way whole in omega (arith, same)
+  front_are : All (IsWayDown ps p) front
+  front_are = subst (All (IsWayDown ps p)) (append-nil front) (others_are ps p ways front [] way whole)
 
-  pub followed : IsDescent ps p (ways ++ way ∷ []) (with_ways_below ps levels way ++ level ∷ [])
-  followed = way_done ps deep p ways levels level way whole (into_all ps way.point.0)
+  left_are : All (IsWayDown ps p) (ways_in (with_ways_below ps ranks levels way) ++ level)
+  left_are =
+      let parts = all_parts (IsWayDown ps p) (ways_in levels) level front_are in
+      All-append (IsWayDown ps p) (ways_in (with_ways_below ps ranks levels way)) level
+      (each_holds (λ ls. All (IsWayDown ps p) (ways_in ls)) (IsInto ps p way.point.0) (with_edge ps ranks way)
+      (λ ls e all into. all_with_way_at (IsWayDown ps p) (more_paths ps p) ls (slice_index ranks e.child.0) (way_below ps way e) all
+      (below_is_way ps p way (way_is ps p ways front [] way whole) e into))
+      levels es parts.0 (into_all ps way.point.0))
+      parts.1
 
-  pub levels_long : length (with_ways_below ps levels way) ≡ length levels
-  levels_long = ways_below_long ps deep p way levels (edges_into (nodes ps) way.point.0)
+  left_brings : (samples : ℕ → Samples) → SamplesTellTheSame (samples_through_all samples (ways_in (with_ways_below ps ranks levels way) ++ level))
+      (samples_through_all samples (front ++ []) ++ flat_map (λ e. samples_through samples (way_below ps way e)) es)
+  left_brings samples =
+      let T = samples_through_all samples in
+      let new = ways_in (with_ways_below ps ranks levels way) in
+      let next = flat_map (λ e. samples_through samples (way_below ps way e)) es in
+      same_trans (T (new ++ level)) ((T (ways_in levels) ++ next) ++ T level) (T (front ++ []) ++ next)
+      (same_trans (T (new ++ level)) (T new ++ T level) ((T (ways_in levels) ++ next) ++ T level)
+      (same_as (T (new ++ level)) (T new ++ T level) (through_append samples new level))
+      (same_append (T new) (T (ways_in levels) ++ next) (T level) (T level)
+      (each_added samples ways_in (with_edge ps ranks way) (way_below ps way) (λ ls e. way_at_added samples ls (slice_index ranks e.child.0) (way_below ps way e)) levels es)
+      (same_refl (T level))))
+      (same_trans ((T (ways_in levels) ++ next) ++ T level) ((T (ways_in levels) ++ T level) ++ next) (T (front ++ []) ++ next)
+      (same_inner (T (ways_in levels)) next (T level))
+      (same_as ((T (ways_in levels) ++ T level) ++ next) (T (front ++ []) ++ next)
+      (ap (λ xs. xs ++ next) (sym (ap T (append-nil front) ∙ through_append samples (ways_in levels) level)))))
+
+  pub followed : IsDescent ps p (ways ++ way ∷ []) (ways_in (with_ways_below ps ranks levels way) ++ level)
+  followed = way_done ps p ways front [] way whole deep (ways_in (with_ways_below ps ranks levels way) ++ level) left_are left_brings
+
+  -- ---- the ranks
+  module _ (rank : ℕ) (ranked : AreLevels ranks (levels ++ (rank, old) ∷ [])) (below : AreBelow rank levels) where
+    parts : AreLevels ranks levels × AreLevels ranks ((rank, old) ∷ [])
+    parts = all_parts (IsLevel ranks) levels ((rank, old) ∷ []) ranked
+
+    own : All (λ (w : Way). slice_index ranks w.point.0 ≡ rank) (level ++ way ∷ [])
+    own = subst (λ ws. All (λ (w : Way). slice_index ranks w.point.0 ≡ rank) ws) popped (All-head (IsLevel ranks) (rank, old) [] parts.1)
+
+    own_parts : All (λ (w : Way). slice_index ranks w.point.0 ≡ rank) level × All (λ (w : Way). slice_index ranks w.point.0 ≡ rank) (way ∷ [])
+    own_parts = all_parts (λ (w : Way). slice_index ranks w.point.0 ≡ rank) level (way ∷ []) own
+
+    way_at : slice_index ranks way.point.0 ≡ rank
+    way_at = All-head (λ (w : Way). slice_index ranks w.point.0 ≡ rank) way [] own_parts.1
+
+    lower : All (IsFromLower ranks rank) es
+    lower = subst (λ r. All (IsFromLower ranks r) es) way_at (into_from_lower (nodes ps) ranks are way.point.0)
+
+    pub levels_now : AreLevels ranks (with_ways_below ps ranks levels way ++ (rank, level) ∷ [])
+    levels_now = All-append (IsLevel ranks) (with_ways_below ps ranks levels way) ((rank, level) ∷ [])
+        (each_holds (AreLevels ranks) (IsFromLower ranks rank) (with_edge ps ranks way)
+        (λ ls e all less. levels_with_way ranks ls (slice_index ranks e.child.0) (way_below ps way e) all refl) levels es parts.0 lower)
+        (All-cons (IsLevel ranks) (rank, level) [] own_parts.0 (All-nil (IsLevel ranks)))
+
+    pub below_now : AreBelow rank (with_ways_below ps ranks levels way)
+    below_now = each_holds (AreBelow rank) (IsFromLower ranks rank) (with_edge ps ranks way)
+        (λ ls e all less. below_with_way rank ls (slice_index ranks e.child.0) (way_below ps way e) all less) levels es below lower
+
+-- the ways of levels, where the last was taken out
+pub ways_taken : (levels new : List (ℕ × List Way)) (rank : ℕ) (level : List Way) → levels ≡ new ++ (rank, level) ∷ [] → ways_in levels ≡ ways_in new ++ level
+ways_taken levels new rank level is =
+    ap ways_in is ∙ (flat_map-append (λ (l : ℕ × List Way). l.1) new ((rank, level) ∷ []) ∙ ap (λ ws. ways_in new ++ ws) (append-nil level))
+
+-- the descent before any way is followed
+pub at_first : (ps : List Point) (ranks : List ℕ) (p : ℕ) → p < length ps → (levels : List (ℕ × List Way))
+    → levels ≡ (slice_index ranks p, first_way p (length (all_vars_of ps p)) ∷ []) ∷ [] → IsDescent ps p [] (ways_in levels) × AreLevels ranks levels
+at_first ps ranks p within levels is =
+    let first : Way = first_way p (length (all_vars_of ps p)) in
+    let rank = slice_index ranks p in (
+      subst (λ (ls : List (ℕ × List Way)). IsDescent ps p [] (ways_in ls)) (sym is) (begun ps p within),
+      subst (AreLevels ranks) (sym is)
+          (All-cons (IsLevel ranks) (rank, first ∷ []) []
+          (All-cons (λ (w : Way). slice_index ranks w.point.0 ≡ rank) first [] refl (All-nil (λ (w : Way). slice_index ranks w.point.0 ≡ rank)))
+          (All-nil (IsLevel ranks))),
+    )

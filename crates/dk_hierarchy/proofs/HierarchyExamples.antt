@@ -1,5 +1,5 @@
 -- Small hierarchies, by computing: what the ways down from a point bring against the samples of the point.
-use Rattle.std.specs.Prelude.{◌≡◌, ◌==◌, ◌&&◌, ◌+◌, ℕ, zero, suc, Bool, true, false, pos, negsuc, List, [], ◌∷◌, ◌++◌, count_by, filter, flat_map, length, map, refl, reverse, Some, None}
+use Rattle.std.specs.Prelude.{◌≡◌, ◌==◌, ◌&&◌, ◌+◌, ℕ, zero, suc, Bool, true, false, pos, negsuc, List, [], ◌∷◌, ◌++◌, count_by, filter, flat_map, length, map, refl, reverse, slice_index, Some, None}
 use Rattle.std.specs.Cmp.Lexicographic.{pointwise}
 use Rattle.std.specs.List.{enumerate_from, list_all}
 use Rattle.dk_base.specs.SameValues.{same_value}
@@ -17,7 +17,7 @@ use Rattle.dk_points.specs.Names.{method_len, role_of}
 use Rattle.dk_points.specs.Partners.{partner_of}
 use Rattle.dk_points.specs.Table.{Point, declared_point}
 use Rattle.dk_points.specs.Vars.{entry_before, orig_vars, vars_of}
-use Rattle.dk_hierarchy.specs.Descent.{first_levels, with_ways_below}
+use Rattle.dk_hierarchy.specs.Descent.{first_way, with_way_at, with_ways_below}
 use Rattle.dk_hierarchy.specs.Samples.{OwnSamples, all_vars_of, own_samples_of, partners_of, samples_of}
 use Rattle.dk_hierarchy.specs.Ways.{repeated_samples, samples_through_all}
 use Rattle.dk_hierarchy.specs.declared.way.Way.{Way}
@@ -87,22 +87,25 @@ own_of points = map (λ p. own_at p.0) (enumerate_from 0 points)
 
 -- ---- going down
 abbrev Going : Type 0
-Going = List Way × List (List Way)
+Going = List Way × List (ℕ × List Way)
 
-abbrev from_level : List Point → List Way → List (List Way) → List Way → Going
-from_level ps ways deeper_last [] = (ways, reverse deeper_last)
-from_level ps ways deeper_last (way ∷ others) = (ways ++ way ∷ [], with_ways_below ps (reverse deeper_last) way ++ reverse others ∷ [])
+abbrev from_level : List Point → List ℕ → List Way → List (ℕ × List Way) → ℕ → List Way → Going
+from_level ps ranks ways greatest_last rank [] = (ways, reverse greatest_last)
+from_level ps ranks ways greatest_last rank (way ∷ others) = (ways ++ way ∷ [], with_ways_below ps ranks (reverse greatest_last) way ++ (rank, reverse others) ∷ [])
 
-abbrev from_levels : List Point → List Way → List (List Way) → Going
-from_levels ps ways [] = (ways, [])
-from_levels ps ways (level ∷ deeper_last) = from_level ps ways deeper_last (reverse level)
+abbrev from_levels : List Point → List ℕ → List Way → List (ℕ × List Way) → Going
+from_levels ps ranks ways [] = (ways, [])
+from_levels ps ranks ways (level ∷ greatest_last) = from_level ps ranks ways greatest_last level.0 (reverse level.1)
 
-abbrev going : List Point → ℕ → Going → Going
-going ps zero g = g
-going ps (suc n) g = going ps n (from_levels ps g.0 (reverse g.1))
+abbrev going : List Point → List ℕ → ℕ → Going → Going
+going ps ranks zero g = g
+going ps ranks (suc n) g = going ps ranks n (from_levels ps ranks g.0 (reverse g.1))
 
+-- depths are ranks
 abbrev ways_of : List Point → ℕ → ℕ → Going
-ways_of ps steps p = going ps steps ([], first_levels p (length (all_vars_of ps p)) (depth_of (nodes ps) p))
+ways_of ps steps p =
+    let ranks = map (λ q. depth_of (nodes ps) q.0) (enumerate_from 0 ps) in
+    going ps ranks steps ([], with_way_at [] (slice_index ranks p) (first_way p (length (all_vars_of ps p))))
 
 -- ---- the same samples, each as often
 abbrev same_sample : List Value → List Value → Bool

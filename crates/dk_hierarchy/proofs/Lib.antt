@@ -5,7 +5,8 @@ pub mod Mapped
 pub mod Telling
 pub mod Partners
 pub mod Onward
-pub mod Levels
+pub mod MoreWays
+pub mod Ranks
 pub mod Descending
 pub mod Going
 pub mod WayExamples
@@ -16,6 +17,7 @@ pub mod Joining
 pub mod Adding
 pub mod Stepping
 pub mod OfPoint
+pub mod Marks
 pub mod Following
 pub mod Answering
 pub mod TableEngines

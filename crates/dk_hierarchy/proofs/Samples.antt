@@ -13,12 +13,13 @@ use Rattle.dk_derive.proofs.Parts.{all_flat_map}
 use Rattle.dk_derive.specs.Partners.{partner_with_derived}
 use Rattle.dk_derive.specs.Values.{value_by_form, values_by_form}
 use Rattle.dk_graph.proofs.Heights.{eqb_true}
+use Rattle.dk_graph.proofs.Ranked.{deeper}
 use Rattle.dk_graph.specs.Graphs.{ParentsAreDeeper, depth_of, edges, edges_into}
 use Rattle.dk_graph.specs.declared.nodes.Edge.{Edge}
 use Rattle.dk_points.specs.Links.{nodes}
 use Rattle.dk_points.specs.Table.{Point}
 use Rattle.dk_samples.specs.Samples.{value_in}
-use Rattle.dk_hierarchy.proofs.Deeper.{IsFromBelow, deeper, into-from-below}
+use Rattle.dk_hierarchy.proofs.Deeper.{IsFromBelow, into-from-below}
 use Rattle.dk_hierarchy.specs.Laws.{DepthsSuffice, SamplesAreOwnAndChildrens, SamplesHaveAllVariables}
 use Rattle.dk_hierarchy.specs.Samples.{OwnSamples, all_vars_of, mapped_sample, own_samples_of, partners_of, samples_of, samples_within}
 

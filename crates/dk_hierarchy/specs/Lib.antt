@@ -6,5 +6,6 @@ pub mod Laws
 pub mod WayLaws
 pub mod Merging
 pub mod Standing
+pub mod Having
 -- what those are made of, and words for the crates above
 pub mod Ways

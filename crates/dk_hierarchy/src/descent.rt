@@ -1,25 +1,26 @@
-// Going down from a point, the deepest ways first.
-ghost use Rattle.std.specs.Prelude.{◌≡◌, ◌<◌, ◌≤◌, ◌++◌, [], ◌∷◌, IfOk, OnOk, length};
-ghost use Rattle.dk_graph.specs.Graphs.{ParentsAreDeeper, depth_of};
-ghost use Rattle.dk_hierarchy.specs.Descent.{IsDescent, with_ways_below};
+// Going down from a point, the ways to points of the greatest rank first.
+ghost use Rattle.std.specs.Prelude.{◌≡◌, ◌<◌, ◌++◌, [], ◌∷◌, IfOk, OnOk, length};
+ghost use Rattle.dk_graph.specs.Graphs.{AreRanks};
+ghost use Rattle.dk_hierarchy.specs.Descent.{AreBelow, AreLevels, IsDescent, ways_in, with_ways_below};
 ghost use Rattle.dk_hierarchy.specs.Standing.{AreEnginesOf};
 ghost use Rattle.dk_hierarchy.specs.Ways.{way_below};
 ghost use Rattle.dk_points.specs.Links.{nodes};
 
 use crate::Way;
 use crate::composing::{onward, partners_of};
-use crate::depths::{add_way, first_levels};
+use crate::levels::{Levels, first_way};
 use dk_base::{List, NoMemory, PointId};
 use dk_engine::Engine;
 use dk_graph::Edge;
 use dk_points::Points;
 use std::alloc::Global;
 
-// A table, the engines of its points, and the point from which it goes down.
+// A table, the ranks and the engines of its points, and the point from which it goes down.
 #[derive(Clone, Copy)]
 struct Descent<'a> {
     alloc: Global,
     points: &'a Points,
+    ranks: &'a [u32],
     engines: &'a [Engine],
     top: PointId,
 }
@@ -43,32 +44,35 @@ impl<'a> Descent<'a> {
     }
 
     // The ways that go on from a way, each in the level of its lower point.
-    fn add_ways_below(&self, levels: &mut Vec<List<Way>>, way: &Way) -> Result<(), NoMemory>
+    fn add_ways_below(&self, levels: &mut Levels, way: &Way) -> Result<(), NoMemory>
         requires engines { AreEnginesOf self.now.points.now self.now.engines.now }
-        requires parents { ParentsAreDeeper (nodes self.now.points.now) }
+        requires ranks { AreRanks (nodes self.now.points.now) self.now.ranks.now }
         requires point { way.now.point.0 < length self.now.points.now }
-        requires deep { depth_of (nodes self.now.points.now) way.now.point.0 ≤ length levels.old.items }
-        ensures { OnOk result (levels.new.items ≡ with_ways_below self.now.points.now levels.old.items way.now) }
+        ensures { OnOk result (levels.new ≡ with_ways_below self.now.points.now self.now.ranks.now levels.old way.now) }
     {
         for edge in self.points.into(way.point) {
             let below = self.way_below(way, *edge)?;
-            add_way(self.alloc, self.points, levels, below)?;
+            levels.add(self.ranks[edge.child.0 as usize], below)?;
         }
         Ok(())
     }
 
-    // Follows each way of the deepest level.
+    // Follows each way of a level. All levels are below it, and so are those that are made.
     fn follow(
         &self,
         ways: &mut List<Way>,
-        levels: &mut Vec<List<Way>>,
+        levels: &mut Levels,
+        rank: u32,
         level: List<Way>,
     ) -> Result<(), NoMemory>
         requires engines { AreEnginesOf self.now.points.now self.now.engines.now }
-        requires parents { ParentsAreDeeper (nodes self.now.points.now) }
-        requires descent { IsDescent self.now.points.now self.now.top.0 ways.old (levels.old.items ++ level ∷ []) }
-        ensures descent { OnOk result (IsDescent self.now.points.now self.now.top.0 ways.new levels.new.items) }
-        ensures long { OnOk result (length levels.new.items ≡ length levels.old.items) }
+        requires ranks { AreRanks (nodes self.now.points.now) self.now.ranks.now }
+        requires descent { IsDescent self.now.points.now self.now.top.0 ways.old (ways_in levels.old ++ level) }
+        requires levels { AreLevels self.now.ranks.now (levels.old ++ (rank, level) ∷ []) }
+        requires below { AreBelow rank levels.old }
+        ensures descent { OnOk result (IsDescent self.now.points.now self.now.top.0 ways.new (ways_in levels.new)) }
+        ensures levels { OnOk result (AreLevels self.now.ranks.now levels.new) }
+        ensures below { OnOk result (AreBelow rank levels.new) }
     {
         let mut level = level.into_vec();
         while let Some(way) = level.pop() {
@@ -79,7 +83,7 @@ impl<'a> Descent<'a> {
     }
 }
 
-/// The ways down from a point, the deepest first. They bring all its samples.
+/// The ways down from a point, each behind all ways to points above its lower one. They bring all its samples.
 pub(crate) fn ways_down(
     alloc: Global,
     points: &Points,
@@ -90,17 +94,21 @@ pub(crate) fn ways_down(
     requires engines { AreEnginesOf points.now engines.now }
     ensures { IfOk result (λ ways. IsDescent points.now top.0 ways []) }
 {
+    let ranks = points.ranks();
     let descent = Descent {
         alloc,
         points,
+        ranks,
         engines,
         top,
     };
     let number = engines[top.0 as usize].vars().len() as u32;
-    let mut levels = first_levels(alloc, top, number, points.depth(top))?;
+    let mut levels = Levels::new(alloc);
+    let first = first_way(alloc, top, number)?;
+    levels.add(ranks[top.0 as usize], first)?;
     let mut ways = List::new(alloc);
-    while let Some(level) = levels.pop() {
-        descent.follow(&mut ways, &mut levels, level)?;
+    while let Some((rank, level)) = levels.pop() {
+        descent.follow(&mut ways, &mut levels, rank, level)?;
     }
     Ok(ways)
 }

@@ -36,8 +36,8 @@ pub fn ways_bring_samples()
     ensures added { EqualWaysAreOne }
 {}
 
-/// So whoever goes down from a point, the deepest ways first, comes to ways that bring all samples of the point from the own samples
-/// of points alone.
+/// So whoever goes down from a point, way by way, comes to ways that bring all samples of the point from the own samples of points
+/// alone.
 pub fn descents_bring_all_samples()
     ensures begin { DescentsBegin }
     ensures go_on { DescentsGoOn }

@@ -2,14 +2,16 @@
 #![tactic(auto)]
 
 mod composing;
-mod depths;
 mod descent;
 mod engines;
+mod having;
 pub mod laws;
+mod levels;
 mod merged;
 mod way;
 
 pub use composing::partners_of;
 pub use engines::engine_of;
+pub use having::have_samples;
 pub use merged::{Merged, merge};
 pub use way::{Way, partners_at};

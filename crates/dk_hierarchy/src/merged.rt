@@ -12,8 +12,8 @@ ghost use Rattle.dk_template.specs.Proper.{IsProper};
 ghost use Rattle.dk_template.specs.Templates.{IsRowOf, form_of};
 
 use crate::Way;
-use crate::depths::first_way;
 use crate::descent::ways_down;
+use crate::levels::first_way;
 use crate::way::{partner_at, partners_at};
 use dk_base::{List, NoMemory, PointId, VarId, VarInfo};
 use dk_engine::Engine;

@@ -1,5 +1,5 @@
 -- A row with a relation is Broken where three leaders are constant and their numbers break the relation.
-use Rattle.std.specs.Prelude.{◌≡◌, ◌<◌, ◌+◌, ◌==◌, ◌||◌, ◌&&◌, ℕ, zero, suc, ℤ, Bool, true, false, not, All, IsSome, IsTrue, List, [], ◌∷◌, Option, None, Some, if◌then◌else◌, is_some, length, map, refl, slice_get, slice_index_or, unwrap_or}
+use Rattle.std.specs.Prelude.{◌≡◌, ◌<◌, ◌+◌, ◌==◌, ◌||◌, ◌&&◌, ℕ, zero, suc, ℤ, Bool, true, false, not, All, IsTrue, List, [], ◌∷◌, Option, None, Some, if◌then◌else◌, is_some, length, map, refl, slice_get, slice_index_or, unwrap_or}
 use Rattle.std.specs.List.{list_all, range_with_len}
 use Rattle.std.proofs.Common.{◌∙◌, ap, arith, subst, sym}
 use Rattle.std.proofs.lemmas.Bool.{and_parts, false≢true, not-true}
@@ -27,21 +27,23 @@ use Rattle.dk_forms.specs.Plain.{plain_of}
 use Rattle.dk_forms.specs.declared.states.State.TheVariants.{Broken}
 use Rattle.dk_presence.specs.Patterns.{counted_by}
 use Rattle.dk_rows.proofs.RowLaws.{plain_rows}
-use Rattle.dk_rows.specs.Meanings.{relation_of}
+use Rattle.dk_rows.specs.Meanings.{meanings, relation_of, state_of}
 use Rattle.dk_samples.specs.Samples.{value_in}
 use Rattle.dk_suppress.specs.Rules.{is_suppressed}
 use Rattle.dk_template.proofs.WrittenTuples.{written_all}
 use Rattle.dk_template.specs.Exchange.{turned_state, written_order}
 use Rattle.dk_template.specs.Rows.{IsTuple}
-use Rattle.dk_template.specs.Templates.{IsRow, arity_of, form_of, is_plain, kind_of, role_kinds, roles_of, rows, template_of}
+use Rattle.dk_template.specs.Templates.{IsRow, arity_of, form_of, kind_of, role_kinds, roles_of, rows, template_of}
 use Rattle.dk_template.specs.declared.grammar.RowId.{RowId}
 use Rattle.dk_template.specs.declared.templates.Role.{Role}
-use Rattle.dk_template.specs.declared.templates.StateForm.{StateForm}
 use Rattle.dk_template.specs.declared.templates.StateForm.TheVariants as form
 use Rattle.dk_template.specs.declared.templates.Takes.{Takes}
 use Rattle.dk_template.specs.declared.templates.Takes.TheVariants.{One, Two, Three}
 use Rattle.dk_template.specs.declared.templates.Template.{Template}
-use Rattle.dk_join.specs.Numbers.{break_row, int_in, number_for}
+use Rattle.dk_ternary.specs.Rows.{is_result, operation_row}
+use Rattle.dk_ternary.specs.declared.operation.Operation.{Operation}
+use Rattle.dk_ternary.specs.declared.operation.Operation.TheVariants.{Sum, Difference, Product, Minimum, Maximum, Quotient, Remainder, And, Or, Xor, Gcd}
+use Rattle.dk_join.specs.Numbers.{break_operation, int_in, number_of}
 
 -- ---- rows of three
 abbrev is_int : Kind → Bool
@@ -99,10 +101,6 @@ ints_tuple row three a b c f g h =
       written = All-cons IsWritten (value.Int a) (value.Int b ∷ value.Int c ∷ []) f (All-cons IsWritten (value.Int b) (value.Int c ∷ []) g (All-cons IsWritten (value.Int c) [] h (All-nil IsWritten)));
     })
 
-pub plain_form : (f : StateForm) → is_plain f ≡ true → f ≡ form.Plain
-plain_form form.Plain h = refl
-plain_form _ h = absurd (false≢true h)
-
 -- ---- constant leaders
 module _ (kept : Kept) (bound : ℕ) where
   value_at_place : ℕ → Value
@@ -147,26 +145,53 @@ known_read kept row is vars long bound below known n =
     ∙ (sym (fits_turn row is vars long (sample ∷ [])) ∙ fit_known kept bound row is vars below))
 
 -- ---- their numbers
-told : (plain : Bool) (o : Option Value) (z : ℤ) → (if plain then int_in o else None) ≡ Some z → (plain ≡ true) × (o ≡ Some (value.Int z))
-told false o z e = absurd (cc e)
-told true None z e = absurd (cc e)
-told true (Some (value.Int y)) z e = let same : y ≡ z = cc e in (refl, ap (λ k. Some (value.Int k)) same)
-told true (Some value.Missing) z e = absurd (cc e)
-told true (Some (value.Bool b)) z e = absurd (cc e)
-told true (Some (value.Hash n)) z e = absurd (cc e)
-told true (Some (value.Str s)) z e = absurd (cc e)
-told true (Some (value.BoolSeq s)) z e = absurd (cc e)
-told true (Some (value.IntSeq s)) z e = absurd (cc e)
-told true (Some (value.HashSeq s)) z e = absurd (cc e)
-told true (Some (value.StrSeq s)) z e = absurd (cc e)
+told : (o : Option Value) (z : ℤ) → int_in o ≡ Some z → o ≡ Some (value.Int z)
+told None z e = absurd (cc e)
+told (Some (value.Int y)) z e = let same : y ≡ z = cc e in ap (λ k. Some (value.Int k)) same
+told (Some value.Missing) z e = absurd (cc e)
+told (Some (value.Bool b)) z e = absurd (cc e)
+told (Some (value.Hash n)) z e = absurd (cc e)
+told (Some (value.Str s)) z e = absurd (cc e)
+told (Some (value.BoolSeq s)) z e = absurd (cc e)
+told (Some (value.IntSeq s)) z e = absurd (cc e)
+told (Some (value.HashSeq s)) z e = absurd (cc e)
+told (Some (value.StrSeq s)) z e = absurd (cc e)
 
--- only a row with a relation has some
-pub plain_if_some : (row : RowId) (kept : Kept) (v : VarId) → IsSome (number_for row kept v) → form_of row ≡ form.Plain
-plain_if_some row kept v h = plain_form (form_of row) (by (is_plain (form_of row)) (int_in (known_at kept.known (leader_of kept.leaders v))) h)
-  where
-    by : (plain : Bool) (o : Option ℤ) → IsSome (if plain then o else None) → plain ≡ true
-    by true o h = refl
-    by false o h = absurd (false≢true h)
+-- ---- operations
+operation_plain : (operation : Operation) → form_of (operation_row operation) ≡ form.Plain
+unfolding rows
+operation_plain Sum = refl
+operation_plain Difference = refl
+operation_plain Product = refl
+operation_plain Minimum = refl
+operation_plain Maximum = refl
+operation_plain Quotient = refl
+operation_plain Remainder = refl
+operation_plain And = refl
+operation_plain Or = refl
+operation_plain Xor = refl
+operation_plain Gcd = refl
+
+relation_is : (operation : Operation) (a b c : ℤ) → relation_of (operation_row operation) (value.Int a ∷ value.Int b ∷ value.Int c ∷ []) ≡ is_result operation a b c
+unfolding relation_of meanings
+relation_is Sum a b c = refl
+relation_is Difference a b c = refl
+relation_is Product a b c = refl
+relation_is Minimum a b c = refl
+relation_is Maximum a b c = refl
+relation_is Quotient a b c = refl
+relation_is Remainder a b c = refl
+relation_is And a b c = refl
+relation_is Or a b c = refl
+relation_is Xor a b c = refl
+relation_is Gcd a b c = refl
+
+-- a row that says the results of an operation is Broken where a number isn't the result
+result_breaks : (operation : Operation) → IsRow (operation_row operation) → (a b c : ℤ) → not (is_result operation a b c) ≡ true
+    → state_of (operation_row operation) ((value.Int a ∷ value.Int b ∷ value.Int c ∷ []) ∷ []) ≡ Broken
+result_breaks operation is a b c broken =
+    plain_rows (operation_row operation) is (operation_plain operation) ((value.Int a ∷ value.Int b ∷ value.Int c ∷ []) ∷ [])
+    ∙ ap (λ t. plain_of (t ∷ [])) (relation_is operation a b c ∙ not-true (is_result operation a b c) broken)
 
 module _ (kept : Kept) (row : RowId) (is : IsRow row) (three : arity_of row ≡ 3) (some : 0 < kept.samples) (v w x : VarId) where
   abbrev a : VarId
@@ -178,34 +203,33 @@ module _ (kept : Kept) (row : RowId) (is : IsRow row) (three : arity_of row ≡ 
   abbrev c : VarId
   c = leader_of kept.leaders x
 
-  by_numbers : (p q r : ℤ) → number_for row kept v ≡ Some p → number_for row kept w ≡ Some q → number_for row kept x ≡ Some r
-      → not (relation_of row (value.Int p ∷ value.Int q ∷ value.Int r ∷ [])) ≡ true → state_read kept row (v ∷ w ∷ x ∷ []) ≡ Broken
-  by_numbers p q r e f g broken =
+  -- of three leaders that are constant the state is that of their numbers
+  pub read_numbers : (p q r : ℤ) → number_of kept v ≡ Some p → number_of kept w ≡ Some q → number_of kept x ≡ Some r
+      → state_read kept row (v ∷ w ∷ x ∷ []) ≡ state_of row ((value.Int p ∷ value.Int q ∷ value.Int r ∷ []) ∷ [])
+  read_numbers p q r e f g =
       let tuple = value.Int p ∷ value.Int q ∷ value.Int r ∷ [] in
-      let first = told (is_plain (form_of row)) (known_at kept.known a) p e in
-      let second = told (is_plain (form_of row)) (known_at kept.known b) q f in
-      let third = told (is_plain (form_of row)) (known_at kept.known c) r g in
+      let one = told (known_at kept.known a) p e in
+      let two = told (known_at kept.known b) q f in
+      let last = told (known_at kept.known c) r g in
       let bound = a.0 + b.0 + c.0 + 1 in
       let Below : VarId → Type 0 = λ u. u.0 < bound in
       let below : All Below (a ∷ b ∷ c ∷ []) =
       All-cons Below a (b ∷ c ∷ []) (omega arith) (All-cons Below b (c ∷ []) (omega arith) (All-cons Below c [] (omega arith) (All-nil Below))) in
       let Known : VarId → Type 0 = λ u. is_some (known_at kept.known u) ≡ true in
       let known : All Known (a ∷ b ∷ c ∷ []) =
-      All-cons Known a (b ∷ c ∷ []) (ap is_some first.1) (All-cons Known b (c ∷ []) (ap is_some second.1) (All-cons Known c [] (ap is_some third.1) (All-nil Known))) in
-      let one = first.1 in
-      let two = second.1 in
-      let last = third.1 in
+      All-cons Known a (b ∷ c ∷ []) (ap is_some one) (All-cons Known b (c ∷ []) (ap is_some two) (All-cons Known c [] (ap is_some last) (All-nil Known))) in
       let values : known_tuple kept.known (a ∷ b ∷ c ∷ []) ≡ tuple = λ i. unwrap_or (one i) value.Missing ∷ unwrap_or (two i) value.Missing ∷ unwrap_or (last i) value.Missing ∷ [] in
       sym (read_some kept row (v ∷ w ∷ x ∷ []) (λ z. omega (arith, some, z)))
-      ∙ (known_read kept row is (a ∷ b ∷ c ∷ []) (sym three) bound below known 3
-      ∙ (ap (state_of_one row) values
-      ∙ (plain_rows row is (plain_form (form_of row) first.0) (tuple ∷ []) ∙ ap (λ t. plain_of (t ∷ [])) (not-true (relation_of row tuple) broken))))
+      ∙ (known_read kept row is (a ∷ b ∷ c ∷ []) (sym three) bound below known 3 ∙ ap (state_of_one row) values)
 
-  pub broken_by_numbers : break_row row (number_for row kept v) (number_for row kept w) (number_for row kept x) ≡ true → state_read kept row (v ∷ w ∷ x ∷ []) ≡ Broken
-  broken_by_numbers = by (number_for row kept v) (number_for row kept w) (number_for row kept x) refl refl refl
+  pub broken_by_numbers : (operation : Operation) → operation_row operation ≡ row → break_operation operation (number_of kept v) (number_of kept w) (number_of kept x) ≡ true
+      → state_read kept row (v ∷ w ∷ x ∷ []) ≡ Broken
+  broken_by_numbers operation of = by (number_of kept v) (number_of kept w) (number_of kept x) refl refl refl
     where
-      by : (o p q : Option ℤ) → number_for row kept v ≡ o → number_for row kept w ≡ p → number_for row kept x ≡ q → break_row row o p q ≡ true → state_read kept row (v ∷ w ∷ x ∷ []) ≡ Broken
-      by (Some y) (Some z) (Some u) e f g h = by_numbers y z u e f g h
+      by : (o p q : Option ℤ) → number_of kept v ≡ o → number_of kept w ≡ p → number_of kept x ≡ q → break_operation operation o p q ≡ true → state_read kept row (v ∷ w ∷ x ∷ []) ≡ Broken
+      by (Some y) (Some z) (Some u) e f g h =
+          read_numbers y z u e f g
+          ∙ (ap (λ r. state_of r ((value.Int y ∷ value.Int z ∷ value.Int u ∷ []) ∷ [])) (sym of) ∙ result_breaks operation (subst IsRow (sym of) is) y z u h)
       by (Some y) (Some z) None e f g h = absurd (false≢true h)
       by (Some y) None o e f g h = absurd (false≢true h)
       by None o p e f g h = absurd (false≢true h)

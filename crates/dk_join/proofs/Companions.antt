@@ -1,9 +1,10 @@
 -- Leaders that have no slot, since by what one engine keeps the first may stand beside neither of the others.
-use Rattle.std.specs.Prelude.{◌≡◌, ◌<◌, ◌&&◌, ◌||◌, Bool, true, false, not, IsTrue, List, [], ◌∷◌, cond, filter, is_some, map, refl}
+use Rattle.std.specs.Prelude.{◌≡◌, ◌<◌, ◌&&◌, ◌||◌, Bool, true, false, not, IfSome, IsTrue, All, List, None, Option, Some, [], ◌∷◌, ◌++◌, cond, filter, flat_map, if◌then◌else◌, is_some, map, refl}
+use Rattle.std.proofs.lemmas.List.Elements.{All-head, All-tail}
 use Rattle.std.specs.Borrow.{Bor}
 use Rattle.std.specs.List.{list_any}
 use Rattle.std.proofs.Common.{◌∙◌, ap, arith, inl, inr, sym}
-use Rattle.std.proofs.lemmas.Bool.{and_cases, false_from_ne_true, not-false, or_cases, or_parts, true≢false}
+use Rattle.std.proofs.lemmas.Bool.{and_cases, cases_Bool, false_from_ne_true, not-false, or_cases, or_parts, true≢false}
 use Rattle.dk_base.specs.declared.kinds.VarId.{VarId}
 use Rattle.dk_base.specs.declared.kinds.VarInfo.{VarInfo}
 use Rattle.dk_constants.specs.Known.{Entries, known_at}
@@ -41,12 +42,14 @@ use Rattle.dk_template.specs.declared.templates.StateForm.TheVariants as form
 use Rattle.dk_join.proofs.Apart.{three_broken}
 use Rattle.dk_join.proofs.Breaking.{broken_by_numbers}
 use Rattle.dk_join.proofs.Lists.{any_lent, filter_lent}
-use Rattle.dk_join.specs.Beside.{AreAround, HaveSamples, IsCompanion, LeavesNoneOut, has_room, is_alone, is_beside, is_free, may_stand, slots_around, slots_at_hand, stands_beside}
+use Rattle.dk_join.specs.Beside.{AreAround, HaveSamples, IsCompanion, LeavesNoneOut, has_room, is_alone, is_beside, is_free, is_near, may_stand, slots_around, slots_at_hand, stands_beside}
 use Rattle.dk_join.specs.Joining.{Pair, answer_of, read_joined}
-use Rattle.dk_join.specs.Numbers.{are_broken, break_row, number_for, numbers_for}
+use Rattle.dk_join.specs.Numbers.{are_broken, break_operation, number_of, numbers_of}
 use Rattle.dk_join.specs.declared.beside.Around.{Around}
 use Rattle.dk_join.specs.declared.beside.Companion.{Companion}
-use Rattle.dk_join.specs.declared.numbers.Numbers.{Numbers}
+use Rattle.dk_join.specs.declared.numbers.Numbered.{Numbered}
+use Rattle.dk_ternary.specs.Rows.{operation_row}
+use Rattle.dk_ternary.specs.declared.operation.Operation.{Operation}
 
 -- ---- what is Broken in one engine is Broken in both
 right_by : {F : Type 0} (state : Known F → State) (meet : F → F → Known F) (k : Known F) → state broken ≡ Broken → state (both meet k broken) ≡ Broken
@@ -94,6 +97,18 @@ broken_out infos known answered row vars gone =
     fourth_false (admits row infos vars) (is_written row vars) (not (all_known known vars)) (not (is_broken (answered row vars))) (not (is_suppressed answered row vars)) (ap (λ s. not (is_broken s)) gone) in
     ap (λ b. map (λ (vs : List VarId). (let s : Slot = record { row = row; leaders = vs; state = answered row vs } in s)) (cond b (vars ∷ []) [])) out
 
+-- leaders that aren't in written order have none either
+second_false : (a b c : Bool) → b ≡ false → (a && (b && c)) ≡ false
+second_false true b c e = ap (λ x. x && c) e
+second_false false b c e = refl
+
+unwritten_out : (infos : List VarInfo) (known : Entries) (answered : RowId → List VarId → State) (row : RowId) (vars : List VarId) → is_written row vars ≡ false
+    → considered infos known answered row vars ≡ []
+unwritten_out infos known answered row vars e =
+    let out : has_slot infos known answered row vars ≡ false =
+    second_false (admits row infos vars) (is_written row vars) (not (all_known known vars) && (not (is_broken (answered row vars)) && not (is_suppressed answered row vars))) e in
+    ap (λ b. map (λ (vs : List VarId). (let s : Slot = record { row = row; leaders = vs; state = answered row vs } in s)) (cond b (vars ∷ []) [])) out
+
 -- what isn't told isn't so
 untold : (so told : Bool) → (IsTrue so → IsTrue told) → told ≡ false → so ≡ false
 untold so told implies e = false_from_ne_true so (λ h. true≢false (sym (implies h) ∙ e))
@@ -119,31 +134,72 @@ joint_broken pair row three some v w x c d none =
           ap (λ s. joined (form_of row) one s) (broken_beside pair.second.kept row three some.second v w.leader x.leader (λ i. left i || right i)) ∙ right_absorbs (form_of row) one)
     ]
 
-numbers_broken : (pair : Pair) (row : RowId) → IsRow row → arity_of row ≡ 3 → HaveSamples pair → (v : VarId) (numbers : Numbers) → numbers ≡ numbers_for row pair v → (w x : Companion) → IsCompanion pair row v w → IsCompanion pair row v x
-    → are_broken row numbers w.numbers x.numbers ≡ true → answer_of pair row (v ∷ w.leader ∷ x.leader ∷ []) ≡ Broken
-unfolding read_joined
-numbers_broken pair row is three some v numbers at w x c d h =
-    let vars = v ∷ w.leader ∷ x.leader ∷ [] in
-    let one = state_read pair.first.kept row vars in
-    let other = state_read pair.second.kept row vars in
-    let first = c.numbers in
-    let second = d.numbers in
-    let told : are_broken row (numbers_for row pair v) (numbers_for row pair w.leader) (numbers_for row pair x.leader) ≡ true = (λ i. are_broken row (sym at i) (sym first i) (sym second i)) ∙ h in
-    elim (or_cases (break_row row (number_for row pair.first.kept v) (number_for row pair.first.kept w.leader) (number_for row pair.first.kept x.leader))
-    (break_row row (number_for row pair.second.kept v) (number_for row pair.second.kept w.leader) (number_for row pair.second.kept x.leader)) told) as (λ _. joined (form_of row) one other ≡ Broken) [
-      | inl one_breaks ↦ ap (λ s. joined (form_of row) s other) (broken_by_numbers pair.first.kept row is three some.first v w.leader x.leader one_breaks) ∙ broken_absorbs (form_of row) other
-      | inr other_breaks ↦ ap (λ s. joined (form_of row) one s) (broken_by_numbers pair.second.kept row is three some.second v w.leader x.leader other_breaks) ∙ right_absorbs (form_of row) one
-    ]
+module _ (pair : Pair) (row : RowId) (is : IsRow row) (three : arity_of row ≡ 3) (some : HaveSamples pair) (v : Numbered) (at : v.numbers ≡ numbers_of pair v.var)
+    (w x : Companion) (c : IsCompanion pair row v.var w) (d : IsCompanion pair row v.var x) where
+  abbrev vars : List VarId
+  vars = v.var ∷ w.leader ∷ x.leader ∷ []
 
-pub none_considered : (pair : Pair) (infos : List VarInfo) (known : Entries) (row : RowId) → IsRow row → arity_of row ≡ 3 → HaveSamples pair → (v : VarId) (numbers : Numbers) → numbers ≡ numbers_for row pair v
-    → (w x : Companion) → IsCompanion pair row v w → IsCompanion pair row v x → has_room row numbers w x ≡ false → considered infos known (answer_of pair) row (v ∷ w.leader ∷ x.leader ∷ []) ≡ []
-none_considered pair infos known row is three some v numbers at w x c d none =
-    let gone : answer_of pair row (v ∷ w.leader ∷ x.leader ∷ []) ≡ Broken =
-    elim (and_cases (may_stand w x) (not (are_broken row numbers w.numbers x.numbers)) none) as (λ _. answer_of pair row (v ∷ w.leader ∷ x.leader ∷ []) ≡ Broken) [
-      | inl apart ↦ joint_broken pair row three some v w x c d apart
-      | inr break ↦ numbers_broken pair row is three some v numbers at w x c d (not-false (are_broken row numbers w.numbers x.numbers) break)
-    ] in
-    broken_out infos known (answer_of pair) row (v ∷ w.leader ∷ x.leader ∷ []) gone
+  operation_broken : (operation : Operation) → operation_row operation ≡ row → are_broken (Some operation) v.numbers w.numbers x.numbers ≡ true → answer_of pair row vars ≡ Broken
+  unfolding read_joined
+  operation_broken operation of h =
+      let one = state_read pair.first.kept row vars in
+      let other = state_read pair.second.kept row vars in
+      let first = c.numbers in
+      let second = d.numbers in
+      let told : are_broken (Some operation) (numbers_of pair v.var) (numbers_of pair w.leader) (numbers_of pair x.leader) ≡ true =
+      (λ i. are_broken (Some operation) (sym at i) (sym first i) (sym second i)) ∙ h in
+      elim (or_cases (break_operation operation (number_of pair.first.kept v.var) (number_of pair.first.kept w.leader) (number_of pair.first.kept x.leader))
+      (break_operation operation (number_of pair.second.kept v.var) (number_of pair.second.kept w.leader) (number_of pair.second.kept x.leader)) told) as (λ _. joined (form_of row) one other ≡ Broken) [
+        | inl one_breaks ↦
+            ap (λ s. joined (form_of row) s other) (broken_by_numbers pair.first.kept row is three some.first v.var w.leader x.leader operation of one_breaks) ∙ broken_absorbs (form_of row) other
+        | inr other_breaks ↦
+            ap (λ s. joined (form_of row) one s) (broken_by_numbers pair.second.kept row is three some.second v.var w.leader x.leader operation of other_breaks) ∙ right_absorbs (form_of row) one
+      ]
+
+  numbers_broken : (operation : Option Operation) → IfSome operation (λ o. operation_row o ≡ row) → are_broken operation v.numbers w.numbers x.numbers ≡ true → answer_of pair row vars ≡ Broken
+  numbers_broken None of h = absurd (true≢false (sym h))
+  numbers_broken (Some operation) of h = operation_broken operation of h
+
+  pub none_considered : (infos : List VarInfo) (known : Entries) (operation : Option Operation) → IfSome operation (λ o. operation_row o ≡ row) → has_room row operation v w x ≡ false
+      → considered infos known (answer_of pair) row vars ≡ []
+  none_considered infos known operation of none =
+      let slots = considered infos known (answer_of pair) row vars in
+      elim (and_cases (may_stand w x) (is_written row vars && not (are_broken operation v.numbers w.numbers x.numbers)) none) as (λ _. slots ≡ []) [
+        | inl apart ↦ broken_out infos known (answer_of pair) row vars (joint_broken pair row three some v.var w x c d apart)
+        | inr rest ↦ elim (and_cases (is_written row vars) (not (are_broken operation v.numbers w.numbers x.numbers)) rest) as (λ _. slots ≡ []) [
+          | inl unwritten ↦ unwritten_out infos known (answer_of pair) row vars unwritten
+          | inr break ↦ broken_out infos known (answer_of pair) row vars (numbers_broken operation of (not-false (are_broken operation v.numbers w.numbers x.numbers) break))
+        ]
+      ]
+
+-- ---- companions that are near
+far : (a b p q : Bool) → (p || q) ≡ false → (a && b) ≡ false → ((a || p) && (b || q)) ≡ false
+far true true p q h e = absurd (true≢false e)
+far true false p q h e = (or_parts p q h).1
+far false b p q h e = ap (λ k. k && (b || q)) (or_parts p q h).0
+
+module _ (pair : Pair) (row : RowId) (three : arity_of row ≡ 3) (some : HaveSamples pair) (v : VarId) (w : Companion) (c : IsCompanion pair row v w) (apart : (w.by_first && w.by_second) ≡ false)
+    (infos : List VarInfo) (known : Entries) where
+  abbrev Of : VarId → List Slot
+  Of z = considered infos known (answer_of pair) row (v ∷ w.leader ∷ z ∷ [])
+
+  abbrev leaders : List Companion → List VarId
+  leaders xs = map (λ x. x.leader) xs
+
+  -- those that aren't give no slot
+  pub near_are_all : (xs : List Companion) → All (IsCompanion pair row v) xs → flat_map Of (leaders (filter is_near xs)) ≡ flat_map Of (leaders xs)
+  near_are_all [] all = refl
+  near_are_all (x ∷ xs) all =
+      let d = All-head (IsCompanion pair row v) x xs all in
+      let rest = near_are_all xs (All-tail (IsCompanion pair row v) x xs all) in
+      let with : Bool → List Slot = λ b. flat_map Of (leaders (if b then x ∷ filter is_near xs else filter is_near xs)) in
+      elim (cases_Bool (is_near x)) as (λ _. flat_map Of (leaders (filter is_near (x ∷ xs))) ≡ flat_map Of (leaders (x ∷ xs))) [
+        | inl near ↦ ap with near ∙ ap (λ ss. Of x.leader ++ ss) rest
+        | inr away ↦
+            (let out : Of x.leader ≡ [] =
+            broken_out infos known (answer_of pair) row (v ∷ w.leader ∷ x.leader ∷ []) (joint_broken pair row three some v w x c d (far w.by_first w.by_second x.by_first x.by_second away apart)) in
+            ap with away ∙ (rest ∙ ap (λ ss. ss ++ flat_map Of (leaders xs)) (sym out)))
+      ]
 
 -- ---- as the code tells it
 module _ (engine : Whole) (row : RowId) (v : VarId) (hand : List (Bor Slot)) (hand_is : map (λ slot. slot.now) hand ≡ slots_at_hand row engine.kept.slots) (around : Around) (is : AreAround engine hand v around) where

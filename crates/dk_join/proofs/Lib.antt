@@ -4,6 +4,7 @@ pub mod Rules
 pub mod Apart
 pub mod Breaking
 pub mod Companions
+pub mod Near
 pub mod Answering
 pub mod Leading
 pub mod Knowing

@@ -1,10 +1,11 @@
 -- Which leaders may stand beside another in a slot of three, by what is kept of two lists of samples.
-use Rattle.std.specs.Prelude.{◌≡◌, ◌<◌, ◌&&◌, ◌||◌, ◌==◌, Bool, true, false, All, IsTrue, List, filter, is_some, length, map, not}
+use Rattle.std.specs.Prelude.{◌≡◌, ◌<◌, ◌&&◌, ◌||◌, ◌==◌, ◌∷◌, [], Bool, true, false, All, IsTrue, List, Option, filter, is_some, length, map, not}
 use Rattle.std.specs.Borrow.{Bor}
 use Rattle.std.specs.List.{list_any}
 use Rattle.dk_base.specs.declared.kinds.VarId.{VarId}
 use Rattle.dk_constants.specs.Known.{known_at}
 use Rattle.dk_presence.specs.Patterns.{has}
+use Rattle.dk_template.specs.Admitted.{is_written}
 use Rattle.dk_template.specs.Premises.{row_of, suffices}
 use Rattle.dk_template.specs.declared.answers.Premise.{Premise}
 use Rattle.dk_template.specs.declared.answers.Premise.TheVariants.{Holds, LeastAtLeast, GreatestAtMost, Only}
@@ -13,13 +14,14 @@ use Rattle.dk_engine.specs.Levels.{Whole}
 use Rattle.dk_engine.specs.Parts.{leader_of}
 use Rattle.dk_engine.specs.declared.kept.Kept.{Kept}
 use Rattle.dk_engine.specs.declared.slot.Slot.{Slot}
+use Rattle.dk_ternary.specs.declared.operation.Operation.{Operation}
 use Rattle.dk_join.specs.Joining.{Pair}
-use Rattle.dk_join.specs.Numbers.{are_broken, numbers_for}
+use Rattle.dk_join.specs.Numbers.{are_broken, numbers_of}
 use Rattle.dk_join.specs.Watched.{watched}
 use Rattle.dk_join.specs.declared.beside.Around.{Around}
 use Rattle.dk_join.specs.declared.beside.Companion.{Companion}
 use Rattle.dk_join.specs.declared.beside.Hands.{Hands}
-use Rattle.dk_join.specs.declared.numbers.Numbers.{Numbers}
+use Rattle.dk_join.specs.declared.numbers.Numbered.{Numbered}
 
 -- ---- slots at hand
 -- the premise is that a row holds
@@ -65,7 +67,8 @@ pub record AreAtHand (pair : Pair) (row : RowId) (hands : Hands) : Type 0 where
   pub first : map (λ slot. slot.now) hands.first.items ≡ slots_at_hand row pair.first.kept.slots
   pub second : map (λ slot. slot.now) hands.second.items ≡ slots_at_hand row pair.second.kept.slots
 
--- what is around the leader of v, by these slots at hand: those that are over it, and whether it is constant or one of them is over it alone
+-- what is around the leader of v, by these slots at hand: those that are over it, and whether it is constant or one of them is over it
+-- alone
 pub record AreAround (engine : Whole) (hand : List (Bor Slot)) (v : VarId) (around : Around) : Type 0 where
   pub engine_is : around.engine.now ≡ engine
   pub slots : around.slots.items ≡ filter (λ slot. has slot.now.leaders (leader_of engine.kept.leaders v)) hand
@@ -85,17 +88,23 @@ LeavesNoneOut kept hand v around =
 -- A leader with its numbers, and whether it may stand beside another by what is kept of each of two lists of samples. Where that is
 -- said of too many, none is left out.
 pub record IsCompanion (pair : Pair) (row : RowId) (v : VarId) (w : Companion) : Type 0 where
-  pub numbers : w.numbers ≡ numbers_for row pair w.leader
+  pub numbers : w.numbers ≡ numbers_of pair w.leader
   pub by_first : IsTrue (stands_beside pair.first.kept row v w.leader) → IsTrue w.by_first
   pub by_second : IsTrue (stands_beside pair.second.kept row v w.leader) → IsTrue w.by_second
+
+-- it may stand beside the leader by what is kept of one of them
+abbrev pub is_near : Companion → Bool
+is_near w = w.by_first || w.by_second
 
 -- by what is kept of each, one of two leaders may stand beside a third
 abbrev pub may_stand : Companion → Companion → Bool
 may_stand w x = (w.by_first || x.by_first) && (w.by_second || x.by_second)
 
--- and so the row may have a slot over the three, unless their numbers break its relation
-abbrev pub has_room : RowId → Numbers → Companion → Companion → Bool
-has_room row numbers w x = may_stand w x && not (are_broken row numbers w.numbers x.numbers)
+-- and so the row may have a slot over the three, where they are in written order and the numbers don't break its relation
+abbrev pub has_room : RowId → Option Operation → Numbered → Companion → Companion → Bool
+has_room row operation v w x =
+    may_stand w x
+    && (is_written row (v.var ∷ w.leader ∷ x.leader ∷ []) && not (are_broken operation v.numbers w.numbers x.numbers))
 
 -- ---- two lists of samples
 pub record HaveSamples (pair : Pair) : Type 0 where

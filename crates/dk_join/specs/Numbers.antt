@@ -1,14 +1,13 @@
 -- The numbers of constant leaders, by which a row with a relation is Broken.
-use Rattle.std.specs.Prelude.{◌||◌, ℤ, Bool, false, not, [], ◌∷◌, Option, None, Some, if◌then◌else◌}
+use Rattle.std.specs.Prelude.{◌||◌, ℤ, Bool, false, not, Option, None, Some}
 use Rattle.dk_base.specs.declared.kinds.VarId.{VarId}
 use Rattle.dk_base.specs.declared.values.Value.{Value}
 use Rattle.dk_base.specs.declared.values.Value.TheVariants as value
 use Rattle.dk_constants.specs.Known.{known_at}
 use Rattle.dk_engine.specs.Parts.{leader_of}
 use Rattle.dk_engine.specs.declared.kept.Kept.{Kept}
-use Rattle.dk_rows.specs.Meanings.{relation_of}
-use Rattle.dk_template.specs.Templates.{form_of, is_plain}
-use Rattle.dk_template.specs.declared.grammar.RowId.{RowId}
+use Rattle.dk_ternary.specs.Rows.{is_result}
+use Rattle.dk_ternary.specs.declared.operation.Operation.{Operation}
 use Rattle.dk_join.specs.Joining.{Pair}
 use Rattle.dk_join.specs.declared.numbers.Numbers.{Numbers}
 
@@ -17,25 +16,23 @@ abbrev pub int_in : Option Value → Option ℤ
 int_in (Some (value.Int z)) = Some z
 int_in _ = None
 
--- The number that a variable's leader has in all samples, if it is constant, for a row with a relation. For any other row none counts.
-abbrev pub number_for : RowId → Kept → VarId → Option ℤ
-number_for row kept v = if is_plain (form_of row) then int_in (known_at kept.known (leader_of kept.leaders v)) else None
+-- the number that a variable's leader has in all samples, if it is constant
+abbrev pub number_of : Kept → VarId → Option ℤ
+number_of kept v = int_in (known_at kept.known (leader_of kept.leaders v))
 
 -- its numbers in two lists of samples
-abbrev pub numbers_for : RowId → Pair → VarId → Numbers
-numbers_for row pair v = record { first = number_for row pair.first.kept v; second = number_for row pair.second.kept v }
+abbrev pub numbers_of : Pair → VarId → Numbers
+numbers_of pair v = record { first = number_of pair.first.kept v; second = number_of pair.second.kept v }
 
--- three numbers break the row's relation
-abbrev pub break_relation : RowId → ℤ → ℤ → ℤ → Bool
-break_relation row a b c = not (relation_of row (value.Int a ∷ value.Int b ∷ value.Int c ∷ []))
+-- of three numbers, all of which are told, the first isn't the result on the two others
+abbrev pub break_operation : Operation → Option ℤ → Option ℤ → Option ℤ → Bool
+break_operation operation (Some a) (Some b) (Some c) = not (is_result operation a b c)
+break_operation operation (Some a) (Some b) None = false
+break_operation operation (Some a) None o = false
+break_operation operation None o p = false
 
--- three numbers, all of which are told, do
-abbrev pub break_row : RowId → Option ℤ → Option ℤ → Option ℤ → Bool
-break_row row (Some a) (Some b) (Some c) = break_relation row a b c
-break_row row (Some a) (Some b) None = false
-break_row row (Some a) None o = false
-break_row row None o p = false
-
--- they do in one of the two lists
-abbrev pub are_broken : RowId → Numbers → Numbers → Numbers → Bool
-are_broken row v w x = break_row row v.first w.first x.first || break_row row v.second w.second x.second
+-- it isn't in one of the two lists; where no operation is told, nothing is
+abbrev pub are_broken : Option Operation → Numbers → Numbers → Numbers → Bool
+are_broken None v w x = false
+are_broken (Some operation) v w x =
+    break_operation operation v.first w.first x.first || break_operation operation v.second w.second x.second

@@ -1,19 +1,20 @@
 // Which leaders may stand beside another in a slot of three, by what two engines keep.
-ghost use Rattle.std.specs.Prelude.{◌≡◌, ◌<◌, ◌==◌, ◌||◌, All, IfOk, IsSome, filter, is_some, length, map};
+ghost use Rattle.std.specs.Prelude.{◌≡◌, ◌<◌, ◌==◌, ◌&&◌, ◌||◌, ◌∷◌, [], All, IfOk, filter, is_some, length, map};
 ghost use Rattle.std.specs.List.{list_any};
 ghost use Rattle.dk_base.specs.declared.kinds.VarId.{VarId};
 ghost use Rattle.dk_constants.specs.Known.{known_at};
-ghost use Rattle.dk_join.specs.Beside.{AreAround, AreAtHand, LeavesNoneOut, has_room, is_alone, is_at_hand, is_beside, may_meet, may_stand};
-ghost use Rattle.dk_join.specs.Numbers.{number_for};
+ghost use Rattle.dk_join.specs.Beside.{AreAround, AreAtHand, LeavesNoneOut, has_room, is_alone, is_at_hand, is_beside, is_near, may_meet, may_stand};
+ghost use Rattle.dk_join.specs.Numbers.{number_of};
 ghost use Rattle.dk_presence.specs.Patterns.{has};
-ghost use Rattle.dk_template.specs.Templates.{IsRow, arity_of, form_of};
-ghost use Rattle.dk_template.specs.declared.templates.StateForm.{StateForm};
+ghost use Rattle.dk_template.specs.Admitted.{is_written};
+ghost use Rattle.dk_template.specs.Templates.{IsRow};
 
-use crate::numbers::{Numbers, are_broken};
+use crate::numbers::{Numbered, Numbers, are_broken};
 use crate::watching::watched;
 use dk_base::{NoMemory, VarId};
 use dk_engine::{Engine, Slot};
-use dk_template::{Premise, RowId, asked_row, suffices_for};
+use dk_template::{Premise, RowId, Symmetry, asked_row, suffices_for, template_at};
+use dk_ternary::Operation;
 use std::alloc::Global;
 
 // ---- slots at hand
@@ -221,29 +222,66 @@ pub(crate) struct Companion {
     pub(crate) by_second: bool,
 }
 
-/// The leaders, each with its numbers for a row, and whether it may stand beside the leader that both are around.
+impl Companion {
+    /// The leader with its numbers.
+    pub(crate) fn numbered(self) -> Numbered
+        ensures { result ≡ record { var = self.leader; numbers = self.numbers } }
+    {
+        Numbered {
+            var: self.leader,
+            numbers: self.numbers,
+        }
+    }
+}
+
+/// The leaders, each with its numbers, and whether it may stand beside the leader that both are around.
 pub(crate) fn companions(
     alloc: Global,
-    row: RowId,
     first: &Around<'_>,
     second: &Around<'_>,
     leaders: &[VarId],
 ) -> Result<Vec<Companion>, NoMemory>
-    requires row { IsRow row }
     requires first { All (λ (v : VarId). v.0 < length first.now.engine.now.kept.leaders) leaders.now }
     requires second { All (λ (v : VarId). v.0 < length second.now.engine.now.kept.leaders) leaders.now }
-    ensures { IfOk result (λ list. list.items ≡ map (λ v. record { leader = v; numbers = record { first = number_for row first.now.engine.now.kept v; second = number_for row second.now.engine.now.kept v }; by_first = is_beside first.now v; by_second = is_beside second.now v }) leaders.now) }
+    ensures { IfOk result (λ list. list.items ≡ map (λ v. record { leader = v; numbers = record { first = number_of first.now.engine.now.kept v; second = number_of second.now.engine.now.kept v }; by_first = is_beside first.now v; by_second = is_beside second.now v }) leaders.now) }
 {
     let mut list = Vec::new(alloc);
     for v in leaders {
         list.push(Companion {
             leader: *v,
-            numbers: Numbers::of(row, first.engine, second.engine, *v),
+            numbers: Numbers::of(first.engine, second.engine, *v),
             by_first: first.admits(*v),
             by_second: second.admits(*v),
         })?;
     }
     Ok(list)
+}
+
+// Whether the leader may stand beside the other by what one of the engines keeps.
+fn is_near(w: Companion) -> bool
+    ensures { result ≡ is_near w }
+{
+    w.by_first || w.by_second
+}
+
+/// Those of the companions that are.
+pub(crate) fn near(alloc: Global, beside: &[Companion]) -> Result<Vec<Companion>, NoMemory>
+    ensures { IfOk result (λ list. list.items ≡ filter is_near beside.now) }
+{
+    let mut list = Vec::new(alloc);
+    for w in beside {
+        if is_near(*w) {
+            list.push(*w)?;
+        }
+    }
+    Ok(list)
+}
+
+/// Whether the leader may stand beside the other by what each engine keeps, whichever leader is the third.
+pub(crate) fn is_beside_both(w: Companion) -> bool
+    ensures { result ≡ (w.by_first && w.by_second) }
+{
+    w.by_first && w.by_second
 }
 
 // Whether by what each engine keeps one of two leaders may stand beside a third.
@@ -253,13 +291,31 @@ fn may_stand(w: Companion, x: Companion) -> bool
     (w.by_first || x.by_first) && (w.by_second || x.by_second)
 }
 
-/// Whether the row may have a slot over three leaders, by these numbers of the first and by what each engine keeps around it.
-pub(crate) fn has_room(row: RowId, numbers: Numbers, w: Companion, x: Companion) -> bool
-    requires row { IsRow row }
-    requires three { arity_of row ≡ 3 }
-    requires first { IsSome numbers.first → form_of row ≡ StateForm.Plain }
-    requires second { IsSome numbers.second → form_of row ≡ StateForm.Plain }
-    ensures { result ≡ has_room row numbers w x }
+// Whether three leaders are in the row's written order: at the roles that may be exchanged they don't descend.
+fn are_written(row: RowId, v: VarId, w: VarId, x: VarId) -> bool
+    requires { IsRow row }
+    ensures { result ≡ is_written row (v ∷ w ∷ x ∷ []) }
 {
-    may_stand(w, x) && !are_broken(row, numbers, w.numbers, x.numbers)
+    match template_at(row).symmetry {
+        Symmetry::Fixed => true,
+        Symmetry::All => v.0 <= w.0 && w.0 <= x.0,
+        Symmetry::Arguments => w.0 <= x.0,
+    }
+}
+
+/// Whether the row may have a slot over three leaders, by what each engine keeps around the first, by their order, and by their numbers,
+/// where the row says the results of an operation.
+pub(crate) fn has_room(
+    row: RowId,
+    operation: Option<Operation>,
+    v: Numbered,
+    w: Companion,
+    x: Companion,
+) -> bool
+    requires { IsRow row }
+    ensures { result ≡ has_room row operation v w x }
+{
+    may_stand(w, x)
+        && (are_written(row, v.var, w.leader, x.leader)
+            && !are_broken(operation, v.numbers, w.numbers, x.numbers))
 }

@@ -1,18 +1,29 @@
 // What two engines say together.
-ghost use Rattle.std.specs.Prelude.{◌≡◌, IfOk, IsTrue, OnErr};
+ghost use Rattle.std.specs.Prelude.{◌≡◌, ◌∷◌, [], IfOk, IsTrue, OnErr};
+ghost use Rattle.dk_join.specs.Beside.{HaveSamples};
+ghost use Rattle.dk_join.specs.Numbers.{numbers_of};
 ghost use Rattle.dk_join.specs.Joining.{AreAlike, agree_joined, answer_of, count_joined};
 ghost use Rattle.dk_engine.specs.Reading.{state_read};
 ghost use Rattle.dk_template.specs.Admitted.{admits};
 ghost use Rattle.dk_template.specs.Joins.{joined};
 ghost use Rattle.dk_template.specs.Premises.{MayWantMemory};
 ghost use Rattle.dk_template.specs.Proper.{IsProper};
-ghost use Rattle.dk_template.specs.Templates.{IsRowOf, form_of};
+ghost use Rattle.dk_template.specs.Templates.{IsRowOf, arity_of, form_of};
 
+use crate::numbers::Numbered;
+use crate::threes::state_of_three;
 use dk_base::{NoMemory, VarId, VarInfo};
 use dk_engine::Engine;
 use dk_template::{Answers, RowId, State, join_states, template_at};
 use std::alloc::Global;
 use std::marker::Model;
+
+/// Where slots of two engines are looked for first. Nothing depends on it but time.
+#[derive(Drop)]
+pub(crate) struct Places {
+    pub(crate) first: usize,
+    pub(crate) second: usize,
+}
 
 /// Two engines over the same variables, which answer together: for both lists of samples.
 #[derive(Drop)]
@@ -76,6 +87,53 @@ impl<'a> Both<'a> {
         ensures err { OnErr result (MayWantMemory row) }
     {
         let other = self.second.answer(row, vars)?;
+        join_states(template_at(row).form, self.alloc, state, &other)
+    }
+
+    /// The state of a row over three variables with their numbers. What is Broken for one is Broken for both, so then the second isn't
+    /// asked. Slots are looked for at these places first, which then are those behind them.
+    pub(crate) fn state_of_three(
+        &self,
+        places: &mut Places,
+        row: RowId,
+        v: Numbered,
+        w: Numbered,
+        x: Numbered,
+    ) -> Result<State, NoMemory>
+        requires some { HaveSamples self.now }
+        requires row { IsRowOf self.now.first.grammar row }
+        requires three { arity_of row ≡ 3 }
+        requires vars { IsTrue (admits row self.now.first.infos (v.var ∷ w.var ∷ x.var ∷ [])) }
+        requires v { v.numbers ≡ numbers_of self.now v.var }
+        requires w { w.numbers ≡ numbers_of self.now w.var }
+        requires x { x.numbers ≡ numbers_of self.now x.var }
+        ensures state { IfOk result (λ s. s ≡ answer_of self.now row (v.var ∷ w.var ∷ x.var ∷ [])) }
+        ensures proper { IfOk result (λ s. IsProper (form_of row) s) }
+        ensures err { OnErr result (MayWantMemory row) }
+    {
+        let place = &mut places.first;
+        let state = state_of_three(
+            self.alloc,
+            self.first,
+            place,
+            row,
+            v.first(),
+            w.first(),
+            x.first(),
+        )?;
+        if matches!(state, State::Broken) {
+            return Ok(State::Broken);
+        }
+        let place = &mut places.second;
+        let other = state_of_three(
+            self.alloc,
+            self.second,
+            place,
+            row,
+            v.second(),
+            w.second(),
+            x.second(),
+        )?;
         join_states(template_at(row).form, self.alloc, state, &other)
     }
 

@@ -11,6 +11,7 @@ mod numbers;
 mod patterns;
 mod sweeps;
 mod tally;
+mod threes;
 mod watching;
 
 pub use joining::{JoinFault, join};

@@ -1,14 +1,14 @@
 // The numbers of constant leaders, by which a row with a relation is Broken.
-ghost use Rattle.std.specs.Prelude.{◌≡◌, ◌<◌, IsSome, length, option_copied};
-ghost use Rattle.dk_join.specs.Numbers.{are_broken, break_relation, break_row, int_in, number_for};
-ghost use Rattle.dk_template.specs.Templates.{IsRow, arity_of, form_of};
-ghost use Rattle.dk_template.specs.declared.templates.StateForm.{StateForm};
+ghost use Rattle.std.specs.Prelude.{◌≡◌, ◌<◌, IfSome, length, option_copied};
+ghost use Rattle.dk_join.specs.Numbers.{are_broken, break_operation, int_in, number_of, numbers_of};
+ghost use Rattle.dk_ternary.specs.Rows.{operation_row};
 
 use crate::constants::known_of;
-use dk_base::{Value, VarId, View};
+use crate::threes::Told;
+use dk_base::{Value, VarId};
 use dk_engine::Engine;
-use dk_grammar::breaks;
-use dk_template::{RowId, info};
+use dk_template::RowId;
+use dk_ternary::Operation;
 
 // The number that a value is.
 fn int_in(value: Option<&Value>) -> Option<i64>
@@ -20,20 +20,15 @@ fn int_in(value: Option<&Value>) -> Option<i64>
     }
 }
 
-// The number that a variable's leader has in all samples, if it is constant, for a row with a relation. For any other row none counts.
-fn number_for(row: RowId, engine: &Engine, v: VarId) -> Option<i64>
-    requires row { IsRow row }
-    requires v { v.0 < length engine.now.kept.leaders }
-    ensures { result ≡ number_for row engine.now.kept v }
+// The number that a variable's leader has in all samples, if it is constant.
+fn number_of(engine: &Engine, v: VarId) -> Option<i64>
+    requires { v.0 < length engine.now.kept.leaders }
+    ensures { result ≡ number_of engine.now.kept v }
 {
-    if info(row).plain {
-        int_in(known_of(engine, v))
-    } else {
-        None
-    }
+    int_in(known_of(engine, v))
 }
 
-/// The numbers that a variable's leaders have in all samples of two engines, for one row.
+/// The numbers that a variable's leaders have in all samples of two engines.
 #[derive(Clone, Copy)]
 pub(crate) struct Numbers {
     pub(crate) first: Option<i64>,
@@ -41,50 +36,85 @@ pub(crate) struct Numbers {
 }
 
 impl Numbers {
-    /// Those of a variable for a row.
-    pub(crate) fn of(row: RowId, first: &Engine, second: &Engine, v: VarId) -> Numbers
-        requires row { IsRow row }
+    /// Those of a variable.
+    pub(crate) fn of(first: &Engine, second: &Engine, v: VarId) -> Numbers
         requires first { v.0 < length first.now.kept.leaders }
         requires second { v.0 < length second.now.kept.leaders }
-        ensures { result ≡ record { first = number_for row first.now.kept v; second = number_for row second.now.kept v } }
+        ensures { result ≡ numbers_of (record { first = first.now; second = second.now }) v }
     {
         Numbers {
-            first: number_for(row, first, v),
-            second: number_for(row, second, v),
+            first: number_of(first, v),
+            second: number_of(second, v),
         }
     }
 }
 
-// Whether three numbers break the row's relation.
-fn break_relation(row: RowId, a: i64, b: i64, c: i64) -> bool
-    requires row { IsRow row }
-    requires three { arity_of row ≡ 3 }
-    requires plain { form_of row ≡ StateForm.Plain }
-    ensures { result ≡ break_relation row a b c }
-{
-    breaks(row, &[View::Int(a), View::Int(b), View::Int(c)])
+/// A variable, with the numbers that its leaders have in two engines.
+#[derive(Clone, Copy)]
+pub(crate) struct Numbered {
+    pub(crate) var: VarId,
+    pub(crate) numbers: Numbers,
 }
 
-// Whether three numbers, all of which are told, break the row's relation.
-fn break_row(row: RowId, a: Option<i64>, b: Option<i64>, c: Option<i64>) -> bool
-    requires row { IsRow row }
-    requires three { arity_of row ≡ 3 }
-    requires plain { IsSome a → form_of row ≡ StateForm.Plain }
-    ensures { result ≡ break_row row a b c }
+impl Numbered {
+    /// With its number in the first.
+    pub(crate) fn first(self) -> Told
+        ensures { result ≡ record { var = self.var; number = self.numbers.first } }
+    {
+        Told {
+            var: self.var,
+            number: self.numbers.first,
+        }
+    }
+
+    /// With its number in the second.
+    pub(crate) fn second(self) -> Told
+        ensures { result ≡ record { var = self.var; number = self.numbers.second } }
+    {
+        Told {
+            var: self.var,
+            number: self.numbers.second,
+        }
+    }
+}
+
+/// The operation whose results a row of three numbers says, if it says those of one of these.
+pub(crate) fn operation_of(row: RowId) -> Option<Operation>
+    ensures { IfSome result (λ operation. operation_row operation ≡ row) }
+{
+    match row.0 {
+        24 => Some(Operation::Sum),
+        25 => Some(Operation::Difference),
+        26 => Some(Operation::Product),
+        27 => Some(Operation::Minimum),
+        28 => Some(Operation::Maximum),
+        29 => Some(Operation::Quotient),
+        30 => Some(Operation::Remainder),
+        31 => Some(Operation::And),
+        32 => Some(Operation::Or),
+        33 => Some(Operation::Xor),
+        34 => Some(Operation::Gcd),
+        _ => None,
+    }
+}
+
+// Whether of three numbers, all of which are told, the first isn't the result on the two others.
+fn break_operation(operation: Operation, a: Option<i64>, b: Option<i64>, c: Option<i64>) -> bool
+    ensures { result ≡ break_operation operation a b c }
 {
     match (a, b, c) {
-        (Some(a), Some(b), Some(c)) => break_relation(row, a, b, c),
+        (Some(a), Some(b), Some(c)) => !operation.is_result(a, b, c),
         _ => false,
     }
 }
 
-/// Whether the numbers of three leaders break the row's relation in one of the engines.
-pub(crate) fn are_broken(row: RowId, v: Numbers, w: Numbers, x: Numbers) -> bool
-    requires row { IsRow row }
-    requires three { arity_of row ≡ 3 }
-    requires first { IsSome v.first → form_of row ≡ StateForm.Plain }
-    requires second { IsSome v.second → form_of row ≡ StateForm.Plain }
-    ensures { result ≡ are_broken row v w x }
+/// Whether in one of the engines the number of the first of three leaders isn't the result on those of the two others.
+pub(crate) fn are_broken(operation: Option<Operation>, v: Numbers, w: Numbers, x: Numbers) -> bool
+    ensures { result ≡ are_broken operation v w x }
 {
-    break_row(row, v.first, w.first, x.first) || break_row(row, v.second, w.second, x.second)
+    match operation {
+        Some(operation) => break_operation(operation, v.first, w.first, x.first)
+            || break_operation(operation, v.second, w.second, x.second),
+        None => false,
+    }
 }

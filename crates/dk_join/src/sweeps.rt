@@ -1,19 +1,22 @@
 // The slots that both engines give, over the tuples of leaders. A tuple of three is passed over where what an engine keeps leaves no
 // room for it.
-ghost use Rattle.std.specs.Prelude.{◌≡◌, ◌≤◌, ◌++◌, [], ◌∷◌, All, IfOk, length, map};
+ghost use Rattle.std.specs.Prelude.{◌≡◌, ◌≤◌, ◌++◌, [], ◌∷◌, false, All, IfOk, IfSome, IsTrue, filter, length, map};
 ghost use Rattle.dk_engine.specs.Feeding.{slots_of, slots_of_row};
 ghost use Rattle.dk_engine.specs.Suited.{suited_vars};
 ghost use Rattle.dk_engine.specs.Sweeps.{behind, considered, firsts, pairs, seconds, thirds, triples};
-ghost use Rattle.dk_join.specs.Beside.{AreAtHand, AreLed, HaveSamples, IsCompanion};
+ghost use Rattle.dk_join.specs.Beside.{AreAtHand, AreLed, HaveSamples, IsCompanion, is_near};
 ghost use Rattle.dk_join.specs.Joining.{answer_of};
-ghost use Rattle.dk_join.specs.Numbers.{numbers_for};
+ghost use Rattle.dk_join.specs.Numbers.{numbers_of};
 ghost use Rattle.dk_join.specs.Suited.{suited_to_some, suits_some};
-ghost use Rattle.dk_template.specs.Templates.{IsRow, IsRowOf, arity_of};
+ghost use Rattle.dk_template.specs.Admitted.{admits, is_written};
+ghost use Rattle.dk_template.specs.Templates.{IsRowOf, arity_of};
+ghost use Rattle.dk_ternary.specs.Rows.{operation_row};
+ghost use Rattle.dk_engine.specs.Parts.{all_known};
 
-use crate::beside::{Around, Companion, Hands, companions, has_room};
-use crate::both::Both;
+use crate::beside::{Around, Companion, Hands, companions, has_room, is_beside_both, near};
+use crate::both::{Both, Places};
 use crate::constants::are_known;
-use crate::numbers::Numbers;
+use crate::numbers::{Numbered, Numbers, operation_of};
 use dk_base::{List, NoMemory, VarId, VarInfo};
 use dk_constants::Constants;
 use dk_engine::{Slot, suited_vars, suits};
@@ -21,6 +24,7 @@ use dk_suppress::suppressed;
 use dk_template::{
     Answers, Grammar, Role, RowId, State, Takes, Tuple, admits, is_written, template_at,
 };
+use dk_ternary::Operation;
 use std::alloc::Global;
 
 // Whether the variable suits one of three roles.
@@ -39,6 +43,34 @@ pub(crate) struct Sweep<'a> {
 }
 
 impl<'a> Sweep<'a> {
+    // Slots with one of this state, unless it's Broken or a rule suppresses it.
+    fn with_state(
+        &self,
+        row: RowId,
+        vars: &[VarId],
+        state: State,
+        slots: List<Slot>,
+    ) -> Result<List<Slot>, NoMemory>
+        requires row { IsRowOf self.now.both.now.first.grammar row }
+        requires few { length vars.now ≤ 3 }
+        requires admitted { IsTrue (admits row self.now.both.now.first.infos vars.now) }
+        requires written { IsTrue (is_written row vars.now) }
+        requires varies { all_known self.now.known.now vars.now ≡ false }
+        requires state { state ≡ answer_of self.now.both.now row vars.now }
+        ensures { IfOk result (λ more. more ≡ slots ++ considered self.now.both.now.first.infos self.now.known.now (answer_of self.now.both.now) row vars.now) }
+    {
+        if matches!(state, State::Broken) || suppressed(row, vars, self.both) {
+            return Ok(slots);
+        }
+        let mut slots = slots;
+        slots.push(Slot {
+            row,
+            leaders: Tuple::of(vars),
+            state,
+        })?;
+        Ok(slots)
+    }
+
     // Slots with that of the leaders, if they have one.
     fn consider(
         &self,
@@ -57,16 +89,36 @@ impl<'a> Sweep<'a> {
             return Ok(slots);
         }
         let state = self.both.answer(row, vars)?;
-        if matches!(state, State::Broken) || suppressed(row, vars, self.both) {
+        self.with_state(row, vars, state, slots)
+    }
+
+    // The same of three leaders with their numbers.
+    fn consider_three(
+        &self,
+        places: &mut Places,
+        row: RowId,
+        v: Numbered,
+        w: Numbered,
+        x: Numbered,
+        slots: List<Slot>,
+    ) -> Result<List<Slot>, NoMemory>
+        requires some { HaveSamples self.now.both.now }
+        requires row { IsRowOf self.now.both.now.first.grammar row }
+        requires three { arity_of row ≡ 3 }
+        requires v { v.numbers ≡ numbers_of self.now.both.now v.var }
+        requires w { w.numbers ≡ numbers_of self.now.both.now w.var }
+        requires x { x.numbers ≡ numbers_of self.now.both.now x.var }
+        ensures { IfOk result (λ more. more ≡ slots ++ considered self.now.both.now.first.infos self.now.known.now (answer_of self.now.both.now) row (v.var ∷ w.var ∷ x.var ∷ [])) }
+    {
+        let vars = [v.var, w.var, x.var];
+        if !admits(row, self.both.infos(), &vars)
+            || !is_written(row, &vars)
+            || are_known(self.known, &vars)
+        {
             return Ok(slots);
         }
-        let mut slots = slots;
-        slots.push(Slot {
-            row,
-            leaders: Tuple::of(vars),
-            state,
-        })?;
-        Ok(slots)
+        let state = self.both.state_of_three(places, row, v, w, x)?;
+        self.with_state(row, &vars, state, slots)
     }
 
     // Those of one leader each.
@@ -99,13 +151,15 @@ impl<'a> Sweep<'a> {
         Ok(slots)
     }
 
-    // Those of two leaders and one of these. Where by what an engine keeps neither the second nor the third may stand beside the first,
-    // or all three are constant and their numbers break the row's relation, the row is Broken there, and so in both.
+    // Those of two leaders and one of these. Those that aren't in the row's written order are passed over. Where by what an engine keeps
+    // neither the second nor the third may stand beside the first, or all three are constant and their numbers break the row's relation,
+    // the row is Broken there, and so in both.
     fn thirds(
         &self,
+        places: &mut Places,
         row: RowId,
-        v: VarId,
-        numbers: Numbers,
+        operation: Option<Operation>,
+        v: Numbered,
         w: Companion,
         third: &[Companion],
         slots: List<Slot>,
@@ -113,18 +167,49 @@ impl<'a> Sweep<'a> {
         requires some { HaveSamples self.now.both.now }
         requires row { IsRowOf self.now.both.now.first.grammar row }
         requires three { arity_of row ≡ 3 }
-        requires numbers { numbers ≡ numbers_for row self.now.both.now v }
-        requires w { IsCompanion self.now.both.now row v w }
-        requires third { All (IsCompanion self.now.both.now row v) third.now }
-        ensures { IfOk result (λ more. more ≡ slots ++ thirds self.now.both.now.first.infos self.now.known.now (answer_of self.now.both.now) row v w.leader (map (λ x. x.leader) third.now)) }
+        requires operation { IfSome operation (λ o. operation_row o ≡ row) }
+        requires v { v.numbers ≡ numbers_of self.now.both.now v.var }
+        requires w { IsCompanion self.now.both.now row v.var w }
+        requires third { All (IsCompanion self.now.both.now row v.var) third.now }
+        ensures { IfOk result (λ more. more ≡ slots ++ thirds self.now.both.now.first.infos self.now.known.now (answer_of self.now.both.now) row v.var w.leader (map (λ x. x.leader) third.now)) }
     {
         let mut slots = slots;
         for x in third {
-            if has_room(row, numbers, w, *x) {
-                slots = self.consider(row, &[v, w.leader, x.leader], slots)?;
+            if has_room(row, operation, v, w, *x) {
+                slots = self.consider_three(places, row, v, w.numbered(), x.numbered(), slots)?;
             }
         }
         Ok(slots)
+    }
+
+    // The same of all companions of the first leader. Where by an engine the second leader may not stand beside it, only such a third one
+    // is looked at as may stand beside it by one of the engines.
+    fn thirds_beside(
+        &self,
+        places: &mut Places,
+        row: RowId,
+        operation: Option<Operation>,
+        v: Numbered,
+        w: Companion,
+        beside: &[Companion],
+        near: &[Companion],
+        slots: List<Slot>,
+    ) -> Result<List<Slot>, NoMemory>
+        requires some { HaveSamples self.now.both.now }
+        requires row { IsRowOf self.now.both.now.first.grammar row }
+        requires three { arity_of row ≡ 3 }
+        requires operation { IfSome operation (λ o. operation_row o ≡ row) }
+        requires v { v.numbers ≡ numbers_of self.now.both.now v.var }
+        requires w { IsCompanion self.now.both.now row v.var w }
+        requires beside { All (IsCompanion self.now.both.now row v.var) beside.now }
+        requires near { near.now ≡ filter is_near beside.now }
+        ensures { IfOk result (λ more. more ≡ slots ++ thirds self.now.both.now.first.infos self.now.known.now (answer_of self.now.both.now) row v.var w.leader (map (λ x. x.leader) beside.now)) }
+    {
+        if is_beside_both(w) {
+            self.thirds(places, row, operation, v, w, beside, slots)
+        } else {
+            self.thirds(places, row, operation, v, w, near, slots)
+        }
     }
 
     // Those of two leaders, one of each list.
@@ -153,7 +238,6 @@ impl<'a> Sweep<'a> {
         v: VarId,
         leaders: &[VarId],
     ) -> Result<Vec<Companion>, NoMemory>
-        requires row { IsRow row }
         requires hands { AreAtHand self.now.both.now row hands.now }
         requires v { AreLed self.now.both.now (v ∷ []) }
         requires leaders { AreLed self.now.both.now leaders.now }
@@ -162,12 +246,13 @@ impl<'a> Sweep<'a> {
     {
         let first = Around::of(self.alloc, self.both.first(), hands.first.as_slice(), v)?;
         let second = Around::of(self.alloc, self.both.second(), hands.second.as_slice(), v)?;
-        companions(self.alloc, row, &first, &second, leaders)
+        companions(self.alloc, &first, &second, leaders)
     }
 
     // Those of a leader and two more.
     fn behind(
         &self,
+        places: &mut Places,
         row: RowId,
         hands: &Hands<'_>,
         v: VarId,
@@ -183,10 +268,24 @@ impl<'a> Sweep<'a> {
         ensures { IfOk result (λ more. more ≡ slots ++ behind self.now.both.now.first.infos self.now.known.now (answer_of self.now.both.now) row v leaders.now leaders.now) }
     {
         let beside = self.companions(row, hands, v, leaders)?;
-        let numbers = Numbers::of(row, self.both.first(), self.both.second(), v);
+        let operation = operation_of(row);
+        let first = Numbered {
+            var: v,
+            numbers: Numbers::of(self.both.first(), self.both.second(), v),
+        };
+        let close = near(self.alloc, beside.as_slice())?;
         let mut slots = slots;
         for w in &beside {
-            slots = self.thirds(row, v, numbers, *w, beside.as_slice(), slots)?;
+            slots = self.thirds_beside(
+                places,
+                row,
+                operation,
+                first,
+                *w,
+                beside.as_slice(),
+                close.as_slice(),
+                slots,
+            )?;
         }
         Ok(slots)
     }
@@ -205,9 +304,13 @@ impl<'a> Sweep<'a> {
         ensures { IfOk result (λ more. more ≡ slots ++ triples self.now.both.now.first.infos self.now.known.now (answer_of self.now.both.now) row leaders.now leaders.now leaders.now) }
     {
         let hands = Hands::of(self.alloc, self.both.first(), self.both.second(), row)?;
+        let mut places = Places {
+            first: 0,
+            second: 0,
+        };
         let mut slots = slots;
         for v in leaders {
-            slots = self.behind(row, &hands, *v, leaders, slots)?;
+            slots = self.behind(&mut places, row, &hands, *v, leaders, slots)?;
         }
         Ok(slots)
     }

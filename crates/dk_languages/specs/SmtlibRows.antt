@@ -68,11 +68,15 @@ smtlib_rows =
     ∷ "(and (= (- T F) (- U G)) (forall ((i Int)) (=> (and (<= F i) (< i T)) (= (select X i) (select Y (+ (- i F) G))))))"  -- 60 EqStrSeq
     ∷ "(and (= (- T F) (- U G)) (forall ((i Int)) (=> (and (<= F i) (< i T)) (< (select X i) (select Y (+ (- i F) G))))))"  -- 61 PairLt
     ∷ "(and (= (- T F) (- U G)) (forall ((i Int)) (=> (and (<= F i) (< i T)) (<= (select X i) (select Y (+ (- i F) G))))))"  -- 62 PairLe
-    ∷ "(forall ((i Int)) (=> (and (<= F i) (< i T)) (exists ((j Int)) (and (<= G j) (< j U) (= (select X i) (select Y j))))))"  -- 63 SubsetInt
-    ∷ "(forall ((i Int)) (=> (and (<= F i) (< i T)) (exists ((j Int)) (and (<= G j) (< j U) (= (select X i) (select Y j))))))"  -- 64 SubsetHash
-    ∷ "(forall ((i Int)) (=> (and (<= F i) (< i T)) (exists ((j Int)) (and (<= G j) (< j U) (= (select X i) (select Y j))))))"  -- 65 SubsetStr
+    -- 63 SubsetInt
+    ∷ "(forall ((i Int)) (=> (and (<= F i) (< i T)) (exists ((j Int)) (and (<= G j) (< j U) (= (select X i) (select Y j))))))"
+    -- 64 SubsetHash
+    ∷ "(forall ((i Int)) (=> (and (<= F i) (< i T)) (exists ((j Int)) (and (<= G j) (< j U) (= (select X i) (select Y j))))))"
+    -- 65 SubsetStr
+    ∷ "(forall ((i Int)) (=> (and (<= F i) (< i T)) (exists ((j Int)) (and (<= G j) (< j U) (= (select X i) (select Y j))))))"
     ∷ "(and (= (- T F) (- U G)) (forall ((i Int)) (=> (and (<= F i) (< i T)) (= (select X i) (select Y (- U 1 (- i F)))))))"  -- 66 Reverse
     ∷ "(= (+ (* A X) (* B Y) (* C Z) D) 0)"  -- 67 LinearTernary
-    ∷ "(and (= (- T F) (- U G)) (forall ((i Int)) (=> (and (<= F i) (< i T)) (= (select Y (+ (- i F) G)) (+ (select X i) A)))))"  -- 68 PairOffset
+    -- 68 PairOffset
+    ∷ "(and (= (- T F) (- U G)) (forall ((i Int)) (=> (and (<= F i) (< i T)) (= (select Y (+ (- i F) G)) (+ (select X i) A)))))"
     ∷ []
     )

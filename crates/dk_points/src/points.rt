@@ -2,7 +2,7 @@
 ghost use Rattle.std.specs.Prelude.{◌≡◌, ◌<◌, ◌≤◌, All, [], false, true, length, map, IfOk, IfSome, Some, slice_get, take};
 ghost use Rattle.std.specs.Option.{option_map, option_map_or};
 ghost use Rattle.dk_base.specs.Shapes.{shape_of, with_derived};
-ghost use Rattle.dk_graph.specs.Graphs.{ParentsAreDeeper, depth_of, edges_from, edges_into, has_cycle, place_in};
+ghost use Rattle.dk_graph.specs.Graphs.{AreRanks, ParentsAreDeeper, depth_of, edges_from, edges_into, has_cycle, place_in};
 ghost use Rattle.dk_graph.specs.Names.{place_of};
 ghost use Rattle.dk_points.specs.Ends.{AreFrom, AreInto};
 ghost use Rattle.dk_points.specs.Kept.{IsPlaceBehind, point_of_place};
@@ -180,7 +180,15 @@ impl Points {
         self.graph.edges_into(p)
     }
 
-    /// The number of edges on the longest path of edges that ends in the point. A child's depth is less than its parent's.
+    /// A number for each point, in order, of which each parent's is greater than its children's. They take no memory.
+    pub fn ranks(&self) -> &[u32]
+        ensures { AreRanks (nodes self.now) result.now }
+    {
+        self.graph.ranks()
+    }
+
+    /// The number of edges on the longest path of edges that ends in the point. A child's depth is less than its parent's. It goes down
+    /// all paths that end there; `ranks` are at hand.
     pub fn depth(&self, p: PointId) -> u32
         requires { p.0 < length self.now }
         ensures depth { result ≡ depth_of (nodes self.now) p.0 }

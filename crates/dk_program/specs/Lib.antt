@@ -5,6 +5,6 @@ pub mod Openings
 pub mod Moments
 pub mod Ending
 pub mod Messages
+pub mod Telling
 -- what those are made of
 pub mod Outputs
-pub mod Telling

@@ -15,6 +15,6 @@ mod telling;
 pub use asking::asked_run;
 pub use first_file::fault_of_lines;
 pub use program::{Begins, Opens, Program};
-pub use reporting::{InParts, tell_parts};
+pub use reporting::{Halt, InParts, tell_parts, write};
 pub use running::{run_opening, run_program};
 pub use telling::{end_with, tell_fault, tell_file_fault, tell_help, tell_usage, tell_version};

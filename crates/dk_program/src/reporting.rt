@@ -42,15 +42,17 @@ pub trait InParts: Sized {
             → text.new ≡ text.old ++ part self.now (told_by h records) place) };
 }
 
-/// Why a report is not written whole.
+/// Why a text is not written whole.
 #[derive(Clone, Copy, Debug, PartialEq, Eq)]
-pub(crate) enum Halt {
+pub enum Halt {
+    /// A write failed.
     Write,
     NoMemory,
 }
 
 impl Halt {
-    fn status(self) -> Ended
+    /// How a program ends that halts so.
+    pub fn status(self) -> Ended
         ensures { result ≡ status_by self }
     {
         match self {
@@ -60,11 +62,11 @@ impl Halt {
     }
 }
 
-// Writes a text to the report.
-fn write<S: Sinks>(sinks: &mut S, text: &[u8]) -> Result<(), Halt>
-    ensures { WritesText Stream.Report text.now (S.written sinks.old) (S.written sinks.new) (S.faults sinks.old) (S.faults sinks.new) result }
+/// Writes a text.
+pub fn write<S: Sinks>(sinks: &mut S, stream: Stream, text: &[u8]) -> Result<(), Halt>
+    ensures { WritesText stream text.now (S.written sinks.old) (S.written sinks.new) (S.faults sinks.old) (S.faults sinks.new) result }
 {
-    match write_all(sinks, Stream::Report, text) {
+    match write_all(sinks, stream, text) {
         Ok(()) => Ok(()),
         Err(Failed) => Err(Halt::Write),
     }
@@ -84,7 +86,7 @@ fn tell_part<P: InParts, S: Sinks>(
 {
     let mut text = Text::new(alloc);
     match program.push_part(&mut text, feed, place) {
-        Ok(()) => write(sinks, text.as_slice()),
+        Ok(()) => write(sinks, Stream::Report, text.as_slice()),
         Err(NoMemory) => Err(Halt::NoMemory),
     }
 }
@@ -100,10 +102,7 @@ fn write_parts<P: InParts, S: Sinks>(
     ensures { TellsOutcome (StandsFor P.Kept.stands feed.now) (λ h records. in_parts P.part_count P.part program.now (told_by h records)) (S.written sinks.old) (S.written sinks.new) (S.faults sinks.old) (S.faults sinks.new) result }
 {
     for place in 0..program.part_count(feed) {
-        match tell_part(alloc, program, feed, place, sinks) {
-            Ok(()) => {}
-            Err(halt) => return Err(halt),
-        }
+        tell_part(alloc, program, feed, place, sinks)?;
     }
     Ok(())
 }

@@ -48,7 +48,9 @@ IsIndexOf kept index = index ≡ record { held = kept.held; leaders = own_leader
 
 -- for each of the ways, or the first of them, the index of its engine
 abbrev pub AreIndexes : Joint → List Indexed → Type 0
-AreIndexes joint indexes = (k : ℕ) (index : Indexed) (way : Way) → k < length indexes → IsIndexOf (engine_at joint (get_or joint.ways k way)).kept (get_or indexes k index)
+AreIndexes joint indexes =
+    (k : ℕ) (index : Indexed) (way : Way) → k < length indexes
+    → IsIndexOf (engine_at joint (get_or joint.ways k way)).kept (get_or indexes k index)
 
 -- in how many of the samples that a way brings from what an engine keeps all of the variables are present
 abbrev pub brought_together : Kept → Way → List VarId → ℕ

@@ -1,5 +1,5 @@
 -- The section of a point in a table, with these own samples of its points.
-use Rattle.std.specs.Prelude.{ℕ, Bool, not, List, [], map, slice_index_or, if◌then◌else◌}
+use Rattle.std.specs.Prelude.{ℕ, List, [], map, slice_index_or, if◌then◌else◌}
 use Rattle.dk_base.specs.Pieces.{is_empty}
 use Rattle.dk_base.specs.declared.values.Value.{Value}
 use Rattle.dk_filters.specs.Answers.{Answers, Parent}
@@ -7,6 +7,7 @@ use Rattle.dk_filters.specs.Candidates.{candidates_kept, candidates_of}
 use Rattle.dk_filters.specs.OfSamples.{answers_of}
 use Rattle.dk_filters.specs.declared.candidate.Candidate.{Candidate}
 use Rattle.dk_graph.specs.Graphs.{edges_from}
+pub use Rattle.dk_hierarchy.specs.Having.{has_samples}
 use Rattle.dk_hierarchy.specs.Samples.{OwnSamples, all_vars_of, partners_of, samples_of}
 use Rattle.dk_points.specs.Links.{nodes}
 use Rattle.dk_points.specs.Table.{Point, names}
@@ -21,9 +22,6 @@ name_in_table ps p = slice_index_or (names ps) p []
 -- all samples of the point at a place, those of its children among them
 abbrev pub all_samples_of : List Point → OwnSamples → ℕ → List (List Value)
 all_samples_of ps own p = samples_of ps own p
-
-abbrev pub has_samples : List Point → OwnSamples → ℕ → Bool
-has_samples ps own p = not (is_empty (all_samples_of ps own p))
 
 -- what they tell
 abbrev pub answers_of_point : List Point → OwnSamples → ℕ → Answers

@@ -301,8 +301,12 @@ impl<'e> Counted<'e> {
         Counted::of(alloc, merged, slice::from_ref(engine))
     }
 
-    // The same with these counts.
-    fn of(alloc: Global, merged: Merged<'e>, engines: &'e [Engine]) -> Result<Counted<'e>, NoMemory>
+    /// The same with these counts.
+    pub(crate) fn of(
+        alloc: Global,
+        merged: Merged<'e>,
+        engines: &'e [Engine],
+    ) -> Result<Counted<'e>, NoMemory>
         requires { merged.engines ≡ engines.now }
         ensures { IfOk result (λ counted. counted ≡ merged.entry) }
     {

@@ -1,14 +1,14 @@
 // The section of a point.
-ghost use Rattle.std.specs.Prelude.{◌≡◌, ◌<◌, ◌++◌, [], IfOk, OnOk, length};
-ghost use Rattle.dk_hierarchy.specs.Samples.{OwnSamples, own_samples_of, samples_of};
-ghost use Rattle.dk_hierarchy.specs.Standing.{AreEnginesOf, EnginesStandFor};
-ghost use Rattle.dk_presence.specs.Patterns.{count_of};
+ghost use Rattle.std.specs.Prelude.{◌≡◌, ◌<◌, ◌++◌, [], IfOk, OnOk, Some, length, slice_get};
+ghost use Rattle.dk_hierarchy.specs.Descent.{IsDescent};
+ghost use Rattle.dk_hierarchy.specs.Samples.{OwnSamples, own_samples_of};
+ghost use Rattle.dk_hierarchy.specs.Standing.{AreEnginesOf, EnginesStandFor, IsMergedAt};
 ghost use Rattle.dk_report.specs.Engines.{grammar_at};
 ghost use Rattle.dk_report.specs.Reports.{has_samples, kept_instances, section_of};
 
 use crate::Options;
 use crate::asking::Asking;
-use crate::counting::merge_counted;
+use crate::counting::{Counted, merge_counted};
 use crate::parents::{parents_of, views_of};
 use dk_base::{List, NoMemory, PointId, Text};
 use dk_engine::Engine;
@@ -17,6 +17,38 @@ use dk_hierarchy::merge;
 use dk_points::Points;
 use dk_template::Answers;
 use std::alloc::Global;
+
+// The instances that hold at a point and that are kept, by what answers for its samples.
+fn kept_by<'a, 'e>(
+    alloc: Global,
+    options: &'a Options,
+    points: &Points,
+    engines: &'e [Engine],
+    p: PointId,
+    here: &'a Counted<'e>,
+) -> Result<List<Candidate>, NoMemory>
+    requires point { p.0 < length points.now }
+    requires engines { AreEnginesOf points.now engines.now }
+    requires here { slice_get engines.now p.0 ≡ Some here.now.here }
+    requires same { here.now.engines ≡ engines.now }
+    requires ways { IsDescent points.now p.0 here.now.ways [] }
+    requires stands { IsMergedAt points.now engines.now p.0 here.now }
+    ensures { IfOk result (λ list. (own : OwnSamples) → EnginesStandFor engines.now (own_samples_of points.now own) → list ≡ kept_instances (grammar_at engines.now p.0) options.now points.now own p.0) }
+{
+    let parents = parents_of(alloc, points, engines, p)?;
+    let views = views_of(alloc, parents.as_slice())?;
+    let engine = &engines[p.0 as usize];
+    let found = PointFacts::of(alloc, here.vars(), here, views.as_slice())?;
+    let asking = Asking {
+        alloc,
+        grammar: engine.grammar(),
+        options,
+        here,
+        parents: views.as_slice(),
+        found: &found,
+    };
+    asking.list_candidates(engines)
+}
 
 /// The instances that hold at a point and that no filter that is on drops, by row and then by variables, from what the engines of the
 /// table's points keep. An instance that the options drop at once isn't asked about; where all samples come from one
@@ -34,34 +66,7 @@ pub fn kept_instances(
     ensures { IfOk result (λ list. (own : OwnSamples) → EnginesStandFor engines.now (own_samples_of points.now own) → list ≡ kept_instances (grammar_at engines.now p.0) options.now points.now own p.0) }
 {
     let here = merge_counted(alloc, points, engines, p)?;
-    let parents = parents_of(alloc, points, engines, p)?;
-    let views = views_of(alloc, parents.as_slice())?;
-    let engine = &engines[p.0 as usize];
-    let found = PointFacts::of(alloc, here.vars(), &here, views.as_slice())?;
-    let asking = Asking {
-        alloc,
-        grammar: engine.grammar(),
-        options,
-        here: &here,
-        parents: views.as_slice(),
-        found: &found,
-    };
-    asking.list_candidates(engines)
-}
-
-// In how many samples of a point all of no variables are present: how many samples there are, at most 2^64 - 1.
-fn sample_count(
-    alloc: Global,
-    points: &Points,
-    engines: &[Engine],
-    p: PointId,
-) -> Result<u64, NoMemory>
-    requires point { p.0 < length points.now }
-    requires engines { AreEnginesOf points.now engines.now }
-    ensures { IfOk result (λ count. (own : OwnSamples) → EnginesStandFor engines.now (own_samples_of points.now own) → count ≡ count_of [] (samples_of points.now own p.0)) }
-{
-    let here = merge(alloc, points, engines, p)?;
-    Ok(here.count(&[]))
+    kept_by(alloc, options, points, engines, p, &here)
 }
 
 /// The section of a point, behind the text, from what the engines of the table's points keep: whether the point has samples, its
@@ -80,11 +85,13 @@ pub fn push_section(
     ensures samples { IfOk result (λ some. (own : OwnSamples) → EnginesStandFor engines.now (own_samples_of points.now own) → some ≡ has_samples points.now own p.0) }
     ensures text { OnOk result ((own : OwnSamples) → EnginesStandFor engines.now (own_samples_of points.now own) → text.new ≡ text.old ++ section_of (grammar_at engines.now p.0) options.now points.now own p.0) }
 {
-    let samples = sample_count(alloc, points, engines, p)?;
+    let merged = merge(alloc, points, engines, p)?;
+    let samples = merged.count(&[]);
     if samples == 0 {
         return Ok(false);
     }
-    let list = kept_instances(alloc, options, points, engines, p)?;
+    let here = Counted::of(alloc, merged, engines)?;
+    let list = kept_by(alloc, options, points, engines, p, &here)?;
     let vars = engines[p.0 as usize].vars();
     dk_print::push_section(text, points.name(p), samples, vars, list.as_slice())?;
     Ok(true)

@@ -29,11 +29,12 @@ use Rattle.dk_print.specs.Sections.{after_blocks_line}
 use Rattle.dk_presence.specs.Patterns.{capped}
 use Rattle.dk_run.specs.Reports.{due_from, due_report, is_due, whole_report}
 use Rattle.dk_run.specs.WholeFile.{ComesToEnd, FileGoesOn, HasFault, FileGives, IsBroken, IsCalmUnless, IsShort, StartedGives, TroubleGives, Within, course_behind, trouble_of_fault, fresh_reading, trouble_of_halt}
-use Rattle.dk_run.specs.Telling.{HaltHasCause, ReportsBy}
+use Rattle.dk_program.specs.Telling.{HaltHasCause}
+use Rattle.dk_run.specs.Telling.{ReportsBy}
 use Rattle.dk_run.specs.declared.reading.Trouble.{Trouble}
 use Rattle.dk_run.specs.declared.reading.Trouble.TheVariants as t
-use Rattle.dk_run.specs.declared.reporting.Halt.{Halt}
-use Rattle.dk_run.specs.declared.reporting.Halt.TheVariants as w
+use Rattle.dk_program.specs.declared.reporting.Halt.{Halt}
+use Rattle.dk_program.specs.declared.reporting.Halt.TheVariants as w
 use Rattle.dk_run.proofs.Courses.{Follows, follows, no_block_ends, no_lines, onto_more}
 use Rattle.dk_run.proofs.Writing.{front_all, front_behind}
 

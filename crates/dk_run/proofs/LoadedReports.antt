@@ -8,12 +8,12 @@ use Rattle.dk_io.specs.Streams.{Texts}
 use Rattle.dk_io.specs.declared.outside.Stream.TheVariants.{Report}
 use Rattle.dk_state.specs.declared.loading.Loaded.{Loaded}
 use Rattle.dk_words.specs.declared.command.Command.{Command}
-use Rattle.dk_run.specs.Ending.{status_of}
+use Rattle.dk_program.specs.Ending.{status_of}
 use Rattle.dk_run.specs.Loaded.{IsFrontOfLoaded, ReportsLoaded}
 use Rattle.dk_run.specs.Reports.{last_report}
 use Rattle.dk_run.specs.Telling.{Added, CutOff, ToldWhole}
-use Rattle.dk_run.specs.declared.reporting.Halt.{Halt}
-use Rattle.dk_run.specs.declared.reporting.Halt.TheVariants.{Write, NoMemory}
+use Rattle.dk_program.specs.declared.reporting.Halt.{Halt}
+use Rattle.dk_program.specs.declared.reporting.Halt.TheVariants.{Write, NoMemory}
 use Rattle.dk_events.specs.declared.ended.Ended.TheVariants as status
 use Rattle.dk_run.proofs.Writing.{added_nothing}
 

@@ -23,7 +23,7 @@ use Rattle.dk_driver.specs.Files.{AreHeldFiles, FaultAt, ended_file, file_name_a
 use Rattle.dk_driver.specs.declared.fault.FileFault.{FileFault}
 use Rattle.dk_driver.specs.declared.fault.FileFault.TheVariants as one
 use Rattle.dk_driver.specs.Reads.{AtStart, Break, HasBroken, Within, held_file_at, rest_behind}
-use Rattle.dk_program.specs.Ending.{EndsByFault, EndsWith, EndsWithoutRun}
+use Rattle.dk_program.specs.Ending.{EndsByFault, EndsWith, EndsWithoutRun, status_of}
 use Rattle.dk_program.specs.Messages.{fault_line, unread_line}
 use Rattle.dk_program.specs.Moments.{Outside}
 use Rattle.dk_program.specs.Outputs.{IsFront, Output, only_on, texts_followed_by}
@@ -33,16 +33,17 @@ use Rattle.dk_run.specs.declared.starting.Beginning.{Beginning}
 use Rattle.dk_run.specs.Beginning.{HasCome, IsLeft, IsRefusedState, StartFaultGives, state_name}
 use Rattle.dk_run.specs.Courses.{Course, Outset, fault_in}
 use Rattle.dk_run.specs.Starts.{Begins, HasBegun}
-use Rattle.dk_run.specs.Ending.{EndsBy, status_of}
+use Rattle.dk_run.specs.Ending.{EndsBy}
 use Rattle.dk_print.specs.Sections.{end_line}
 use Rattle.dk_run.specs.Outputs.{first_line, output_along, output_of, saved_state, unread_output}
 use Rattle.dk_run.specs.Reports.{due_reports, whole_report}
 use Rattle.dk_run.specs.Statuses.{AreRead, ComesTo, IsCutShort, IsRefused, IsStateRefused, IsStateUnread, IsUnread, OutputIsWritten, Says, StateUnreadGives}
-use Rattle.dk_run.specs.Telling.{CutOff, CutsText, HaltHasCause, StateCut, StateTold, ToldWhole}
+use Rattle.dk_program.specs.Telling.{CutsText, HaltHasCause}
+use Rattle.dk_run.specs.Telling.{CutOff, StateCut, StateTold, ToldWhole}
 use Rattle.dk_run.specs.declared.reading.FilesTrouble.{FilesTrouble}
 use Rattle.dk_run.specs.declared.reading.FilesTrouble.TheVariants as t
-use Rattle.dk_run.specs.declared.reporting.Halt.{Halt}
-use Rattle.dk_run.specs.declared.reporting.Halt.TheVariants as w
+use Rattle.dk_program.specs.declared.reporting.Halt.{Halt}
+use Rattle.dk_program.specs.declared.reporting.Halt.TheVariants as w
 use Rattle.dk_events.specs.declared.ended.Ended.{Ended}
 use Rattle.dk_events.specs.declared.ended.Ended.TheVariants.{Done, Refused, Usage, Read, Write, NoMemory}
 use Rattle.dk_run.proofs.Placing.{helds_length, names_length, rose_since}

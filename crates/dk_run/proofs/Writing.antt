@@ -11,9 +11,10 @@ use Rattle.dk_io.specs.Outside.{Rose}
 use Rattle.dk_io.specs.Streams.{Texts, with_bytes}
 use Rattle.dk_io.specs.declared.outside.Stream.{Stream}
 use Rattle.dk_io.specs.declared.outside.Stream.TheVariants.{Report, Messages, State}
-use Rattle.dk_run.specs.Telling.{CutOff, CutsText, HaltHasCause, TellsOutcome, ToldWhole}
-use Rattle.dk_run.specs.declared.reporting.Halt.{Halt}
-use Rattle.dk_run.specs.declared.reporting.Halt.TheVariants.{Write, NoMemory}
+use Rattle.dk_program.specs.Telling.{CutsText, HaltHasCause}
+use Rattle.dk_run.specs.Telling.{CutOff, TellsOutcome, ToldWhole}
+use Rattle.dk_program.specs.declared.reporting.Halt.{Halt}
+use Rattle.dk_program.specs.declared.reporting.Halt.TheVariants.{Write, NoMemory}
 
 -- ---- streams
 known_more : (known : Option (List ℕ)) (a b : List ℕ) → append_known (append_known known a) b ≡ append_known known (a ++ b)

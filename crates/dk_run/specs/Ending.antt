@@ -9,8 +9,6 @@ use Rattle.dk_program.specs.Messages.{fault_line, unread_line}
 use Rattle.dk_run.specs.Commands.{file_names}
 use Rattle.dk_run.specs.declared.reading.FilesTrouble.{FilesTrouble}
 use Rattle.dk_run.specs.declared.reading.FilesTrouble.TheVariants as t
-use Rattle.dk_run.specs.declared.reporting.Halt.{Halt}
-use Rattle.dk_run.specs.declared.reporting.Halt.TheVariants as halt
 use Rattle.dk_events.specs.declared.ended.Ended.{Ended}
 use Rattle.dk_events.specs.declared.ended.Ended.TheVariants.{Read, Refused, Write, NoMemory}
 
@@ -24,8 +22,3 @@ EndsBy command (t.Read place) old new before after result =
     EndsWith Read Messages (unread_line (file_name_at (file_names command) place)) old new before after result
 EndsBy command t.Write old new before after result = (result ≡ Write) × (new ≡ old) × (after ≡ before)
 EndsBy command t.NoMemory old new before after result = (result ≡ NoMemory) × (new ≡ old) × (after ≡ before)
-
--- the status of a run in which a text is not written whole
-abbrev pub status_of : Halt → Ended
-status_of halt.Write = Write
-status_of halt.NoMemory = NoMemory

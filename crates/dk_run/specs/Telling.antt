@@ -1,8 +1,7 @@
 -- What writing texts comes to.
 use Rattle.std.specs.Prelude.{◌≡◌, ℕ, false, List, [], Result, Ok, Err}
 use Rattle.std.specs.Io.{StartsWith}
-use Rattle.dk_io.specs.Outside.{Rose}
-use Rattle.dk_io.specs.Streams.{AddsFront, Texts, with_bytes}
+use Rattle.dk_io.specs.Streams.{Texts, with_bytes}
 use Rattle.dk_io.specs.declared.outside.Stream.{Stream}
 use Rattle.dk_io.specs.declared.outside.Stream.TheVariants.{Report, State}
 use Rattle.dk_blocks.specs.History.{History}
@@ -11,8 +10,8 @@ use Rattle.dk_core.specs.declared.session.Session.{Session}
 use Rattle.dk_words.specs.declared.command.Command.{Command}
 use Rattle.dk_run.specs.Commands.{report_options}
 use Rattle.dk_run.specs.Outputs.{saved_state}
-use Rattle.dk_run.specs.declared.reporting.Halt.{Halt}
-use Rattle.dk_run.specs.declared.reporting.Halt.TheVariants.{Write, NoMemory}
+use Rattle.dk_program.specs.Telling.{HaltHasCause}
+use Rattle.dk_program.specs.declared.reporting.Halt.{Halt}
 
 -- a text of which this holds was added to a stream
 pub record Added (old new : Texts) (stream : Stream) (P : List ℕ → Type 0) : Type 0 where
@@ -20,27 +19,12 @@ pub record Added (old new : Texts) (stream : Stream) (P : List ℕ → Type 0) :
   pub written : new ≡ with_bytes old stream text
   pub holds : P text
 
--- a front of this text was written to the stream, and a write failed; or memory ran out, and nothing was written
-abbrev pub CutsText : Stream → List ℕ → Texts → Texts → ℕ → ℕ → Halt → Type 0
-CutsText stream text old new before after Write = AddsFront old new stream text × Rose before after
-CutsText stream text old new before after NoMemory = (new ≡ old) × (after ≡ before)
-
--- what writing this text to the stream comes to
-abbrev pub WritesText : {A : Type 0} → Stream → List ℕ → Texts → Texts → ℕ → ℕ → Result A Halt → Type 0
-WritesText stream text old new before after (Ok u) = (new ≡ with_bytes old stream text) × (after ≡ before)
-WritesText stream text old new before after (Err halt) = CutsText stream text old new before after halt
-
 -- the text that is due of the history was added to the report, and no write failed
 pub record ToldWhole (Stands : History → Type 0) (due : History → List ℕ) (old new : Texts) (before after : ℕ) : Type 0 where
   pub text : List ℕ
   pub written : new ≡ with_bytes old Report text
   pub holds : (h : History) → Stands h → text ≡ due h
   pub calm : after ≡ before
-
--- why it is not written whole
-abbrev pub HaltHasCause : ℕ → ℕ → Halt → Type 0
-HaltHasCause before after Write = Rose before after
-HaltHasCause before after NoMemory = after ≡ before
 
 -- a front of it was added, and a write failed or memory ran out
 pub record CutOff (Stands : History → Type 0) (due : History → List ℕ) (old new : Texts) (before after : ℕ) (halt : Halt) : Type 0 where

@@ -16,8 +16,8 @@ use Rattle.dk_presence.specs.Patterns.{capped}
 use Rattle.dk_run.specs.Reports.{due_from}
 use Rattle.dk_base.specs.declared.faults.Fault.{Fault}
 use Rattle.dk_base.specs.declared.faults.Fault.TheVariants as fault
-use Rattle.dk_run.specs.declared.reporting.Halt.{Halt}
-use Rattle.dk_run.specs.declared.reporting.Halt.TheVariants as halt
+use Rattle.dk_program.specs.declared.reporting.Halt.{Halt}
+use Rattle.dk_program.specs.declared.reporting.Halt.TheVariants as halt
 use Rattle.dk_run.specs.declared.reading.Trouble.{Trouble}
 use Rattle.dk_run.specs.declared.reading.Trouble.TheVariants.{Refused, Start, Read, Write, NoMemory}
 

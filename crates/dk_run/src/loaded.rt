@@ -7,7 +7,7 @@ ghost use Rattle.dk_run.specs.Commands.{is_selected as selects_name};
 ghost use Rattle.dk_run.specs.Loaded.{ReportsLoaded};
 
 use crate::choosing::{is_selected, options_of};
-use crate::reporting::{status_of, tell_last};
+use crate::reporting::tell_last;
 use dk_base::NoMemory;
 use dk_core::Session;
 use dk_events::Ended;
@@ -33,7 +33,7 @@ fn report_selected<F: Fn(&[u8]) -> bool + Drop, S: Sinks>(
     match Session::of_loaded(alloc, select, options_of(command), loaded) {
         Ok(session) => match tell_last(alloc, command, &session, sinks) {
             Ok(()) => Ended::Done,
-            Err(halt) => status_of(halt),
+            Err(halt) => halt.status(),
         },
         Err(NoMemory) => Ended::NoMemory,
     }

@@ -18,13 +18,14 @@ ghost use Rattle.dk_run.specs.Telling.{Added, ReportsBy};
 ghost use Rattle.dk_run.specs.WholeFile.{FileGives, IsCalmBut, IsNoBreak, StartedGives, TextGives, trouble_of_fault, trouble_of_halt, unstarted_reading};
 
 use crate::choosing::generated_count;
-use crate::reporting::{Halt, tell_by_the_way};
+use crate::reporting::tell_by_the_way;
 use dk_arguments::Word;
 use dk_base::{Fault, List, NoMemory, Text, Why};
 use dk_core::Session;
 use dk_generate::{generate, generated_name};
 use dk_io::{Failed, Inputs, Sinks, SteadyInputs};
 use dk_lines::Lines;
+use dk_program::Halt;
 use dk_words::Command;
 use std::alloc::Global;
 

@@ -3,65 +3,43 @@ ghost use Rattle.std.specs.Prelude.{◌≡◌, ◌<◌, ◌++◌, ℕ, List, [],
 ghost use Rattle.std.specs.List.{enumerate_from};
 ghost use Rattle.std.specs.Option.{option_map_or};
 ghost use Rattle.dk_blocks.specs.History.{History};
-ghost use Rattle.dk_core.specs.Sections.{all_stats_of, report_of, section_of, stats_of};
+ghost use Rattle.dk_core.specs.Sections.{all_stats_of, has_samples, have_samples, report_of, section_of, stats_of};
 ghost use Rattle.dk_core.specs.Selecting.{SelectsBy};
 ghost use Rattle.dk_core.specs.Standing.{SessionStandsFor, blocks_of, points_of, select_of};
 ghost use Rattle.dk_run.specs.Commands.{is_selected, report_options};
-ghost use Rattle.dk_run.specs.Ending.{status_of};
 ghost use Rattle.dk_print.specs.Sections.{after_blocks_line as blocks_text, end_line as end_text};
+ghost use Rattle.dk_program.specs.Telling.{WritesText};
 ghost use Rattle.dk_run.specs.Reports.{is_due, whole_report};
-ghost use Rattle.dk_run.specs.Telling.{ReportsBy, StateTells, TellsOutcome, WritesText};
+ghost use Rattle.dk_run.specs.Telling.{ReportsBy, StateTells, TellsOutcome};
 
 use crate::messages::{after_blocks_line, end_line};
 use dk_base::{PointId, Text};
 use dk_core::Session;
-use dk_events::Ended;
-use dk_io::{Failed, Sinks, Stream, write_all};
+use dk_io::{Sinks, Stream};
+use dk_program::{Halt, write};
 use dk_words::Command;
 use std::alloc::Global;
 
-/// Why a text is not written whole.
-#[derive(Clone, Copy, Debug, PartialEq, Eq)]
-pub(crate) enum Halt {
-    Write,
-    NoMemory,
-}
-
-/// The status of a run that halts so.
-pub(crate) fn status_of(halt: Halt) -> Ended
-    ensures { result ≡ status_of halt }
-{
-    match halt {
-        Halt::Write => Ended::Write,
-        Halt::NoMemory => Ended::NoMemory,
-    }
-}
-
-/// Writes a text.
-pub(crate) fn write<S: Sinks>(sinks: &mut S, stream: Stream, text: &[u8]) -> Result<(), Halt>
-    ensures { WritesText stream text.now (S.written sinks.old) (S.written sinks.new) (S.faults sinks.old) (S.faults sinks.new) result }
-{
-    match write_all(sinks, stream, text) {
-        Ok(()) => Ok(()),
-        Err(Failed) => Err(Halt::Write),
-    }
-}
-
-// Writes the section of a point.
+// Writes the section of a point, where it has samples.
 fn tell_section<F: Fn(&[u8]) -> bool + Drop, S: Sinks>(
     alloc: Global,
     command: &Command,
     session: &Session<F>,
+    has: bool,
     p: u32,
     sinks: &mut S,
 ) -> Result<(), Halt>
     requires within { p < length (points_of session.now) }
+    requires has { (h : History) → SessionStandsFor session.now h → has ≡ has_samples h p }
     requires reports { ReportsBy command.now session.now }
     requires callable { F.IsAlwaysCallable (select_of session.now) }
     requires selects { SelectsBy (F.post (select_of session.now)) (is_selected command.now) }
     ensures { TellsOutcome (SessionStandsFor session.now) (λ h. section_of (report_options command.now) (is_selected command.now) h p) (S.written sinks.old) (S.written sinks.new) (S.faults sinks.old) (S.faults sinks.new) result }
 {
     let _command = command;
+    if !has {
+        return Ok(());
+    }
     let mut text = Text::new(alloc);
     match session.push_section(&mut text, PointId(p)) {
         Ok(_) => write(sinks, Stream::Report, text.as_slice()),
@@ -69,7 +47,29 @@ fn tell_section<F: Fn(&[u8]) -> bool + Drop, S: Sinks>(
     }
 }
 
-// Writes the sections of all points.
+// Writes the sections of all points, of which these have samples.
+fn tell_marked<F: Fn(&[u8]) -> bool + Drop, S: Sinks>(
+    alloc: Global,
+    command: &Command,
+    session: &Session<F>,
+    marks: &[bool],
+    sinks: &mut S,
+) -> Result<(), Halt>
+    requires long { length marks.now ≡ length (points_of session.now) }
+    requires marks { (h : History) → SessionStandsFor session.now h → marks.now ≡ have_samples h }
+    requires reports { ReportsBy command.now session.now }
+    requires callable { F.IsAlwaysCallable (select_of session.now) }
+    requires selects { SelectsBy (F.post (select_of session.now)) (is_selected command.now) }
+    ensures { TellsOutcome (SessionStandsFor session.now) (λ h. report_of (report_options command.now) (is_selected command.now) h) (S.written sinks.old) (S.written sinks.new) (S.faults sinks.old) (S.faults sinks.new) result }
+{
+    let points = session.points();
+    for p in 0..points.len() {
+        tell_section(alloc, command, session, marks[p as usize], p, sinks)?;
+    }
+    Ok(())
+}
+
+// Writes the sections of all points. Which have samples is found for all at once, since a section goes down from its point.
 fn tell_sections<F: Fn(&[u8]) -> bool + Drop, S: Sinks>(
     alloc: Global,
     command: &Command,
@@ -81,14 +81,10 @@ fn tell_sections<F: Fn(&[u8]) -> bool + Drop, S: Sinks>(
     requires selects { SelectsBy (F.post (select_of session.now)) (is_selected command.now) }
     ensures { TellsOutcome (SessionStandsFor session.now) (λ h. report_of (report_options command.now) (is_selected command.now) h) (S.written sinks.old) (S.written sinks.new) (S.faults sinks.old) (S.faults sinks.new) result }
 {
-    let points = session.points();
-    for p in 0..points.len() {
-        match tell_section(alloc, command, session, p, sinks) {
-            Ok(()) => {}
-            Err(halt) => return Err(halt),
-        }
+    match session.have_samples() {
+        Ok(marks) => tell_marked(alloc, command, session, marks.as_slice(), sinks),
+        Err(_) => Err(Halt::NoMemory),
     }
-    Ok(())
 }
 
 // Writes the sizes of a point.
@@ -123,10 +119,7 @@ fn tell_all_stats<F: Fn(&[u8]) -> bool + Drop, S: Sinks>(
 {
     let points = session.points();
     for p in 0..points.len() {
-        match tell_stats(alloc, command, session, p, sinks) {
-            Ok(()) => {}
-            Err(halt) => return Err(halt),
-        }
+        tell_stats(alloc, command, session, p, sinks)?;
     }
     Ok(())
 }
@@ -160,10 +153,8 @@ fn tell_report<F: Fn(&[u8]) -> bool + Drop, S: Sinks>(
     requires selects { SelectsBy (F.post (select_of session.now)) (is_selected command.now) }
     ensures { TellsOutcome (SessionStandsFor session.now) (λ h. whole_report command.now h) (S.written sinks.old) (S.written sinks.new) (S.faults sinks.old) (S.faults sinks.new) result }
 {
-    match tell_sections(alloc, command, session, sinks) {
-        Ok(()) => tell_sizes(alloc, command, session, sinks),
-        Err(halt) => Err(halt),
-    }
+    tell_sections(alloc, command, session, sinks)?;
+    tell_sizes(alloc, command, session, sinks)
 }
 
 // Writes the line in front of a report by the way.
@@ -213,10 +204,8 @@ fn tell_due<F: Fn(&[u8]) -> bool + Drop, S: Sinks>(
     requires selects { SelectsBy (F.post (select_of session.now)) (is_selected command.now) }
     ensures { TellsOutcome (SessionStandsFor session.now) (λ h. blocks_text (blocks_of session.now) ++ whole_report command.now h) (S.written sinks.old) (S.written sinks.new) (S.faults sinks.old) (S.faults sinks.new) result }
 {
-    match tell_blocks(alloc, session.blocks(), sinks) {
-        Ok(()) => tell_report(alloc, command, session, sinks),
-        Err(halt) => Err(halt),
-    }
+    tell_blocks(alloc, session.blocks(), sinks)?;
+    tell_report(alloc, command, session, sinks)
 }
 
 /// Writes the report by the way, if one is due after the last block.
@@ -271,8 +260,6 @@ pub(crate) fn tell_last<F: Fn(&[u8]) -> bool + Drop, S: Sinks>(
     ensures { TellsOutcome (SessionStandsFor session.now) (λ h. option_map_or (λ every. end_text (blocks_of session.now)) command.now.every [] ++ whole_report command.now h)
         (S.written sinks.old) (S.written sinks.new) (S.faults sinks.old) (S.faults sinks.new) result }
 {
-    match tell_end(alloc, command, session.blocks(), sinks) {
-        Ok(()) => tell_report(alloc, command, session, sinks),
-        Err(halt) => Err(halt),
-    }
+    tell_end(alloc, command, session.blocks(), sinks)?;
+    tell_report(alloc, command, session, sinks)
 }

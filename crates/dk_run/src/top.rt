@@ -11,17 +11,18 @@ ghost use Rattle.dk_arguments.specs.declared.request.Request.TheVariants as requ
 ghost use Rattle.dk_program.specs.Ending.{EndsWith};
 ghost use Rattle.dk_program.specs.Moments.{Outside, outside};
 ghost use Rattle.dk_program.specs.Statuses.{IsARun};
+ghost use Rattle.dk_program.specs.Telling.{WritesText};
 ghost use Rattle.dk_run.specs.AllFiles.{AreCalmBut, IsCaused, IsTroubleOf, RunGives};
 ghost use Rattle.dk_run.specs.Commands.{file_names, helds_of, is_selected as selects_name};
 ghost use Rattle.dk_run.specs.Beginning.{HasCome, IsBegun};
 ghost use Rattle.dk_run.specs.Ending.{EndsBy};
 ghost use Rattle.dk_run.specs.Outputs.{first_line};
 ghost use Rattle.dk_run.specs.Statuses.{CompletesCalmly, Says};
-ghost use Rattle.dk_run.specs.Telling.{Added, ReportsBy, WritesText};
+ghost use Rattle.dk_run.specs.Telling.{Added, ReportsBy};
 
 use crate::choosing::{is_selected, name_at, state_name};
 use crate::reading::{FilesTrouble, read_files, read_generated};
-use crate::reporting::{Halt, status_of, tell_last, tell_state, write};
+use crate::reporting::{tell_last, tell_state};
 use crate::starting::{Beginning, begin};
 use dk_core::Session;
 use dk_driver::FileFault;
@@ -29,7 +30,7 @@ use dk_events::Ended;
 use dk_generate::generated_line;
 use dk_io::{Inputs, Sinks, Stream};
 use dk_lines::{Limits, Lines};
-use dk_program::{asked_run, tell_file_fault};
+use dk_program::{Halt, asked_run, tell_file_fault, write};
 use dk_words::Command;
 use std::alloc::Global;
 
@@ -104,10 +105,8 @@ fn read_run<F: Fn(&[u8]) -> bool + Drop, I: Inputs, S: Sinks>(
         Ok(lines) => lines,
         Err(_) => return Err(FilesTrouble::NoMemory),
     };
-    match read_generated(alloc, command, session, &mut lines, sinks) {
-        Ok(session) => read_files(alloc, command, session, inputs, &mut lines, sinks),
-        Err(trouble) => Err(trouble),
-    }
+    let session = read_generated(alloc, command, session, &mut lines, sinks)?;
+    read_files(alloc, command, session, inputs, &mut lines, sinks)
 }
 
 // Reads the files of the run and tells what they come to, behind the first line of the messages.
@@ -132,9 +131,9 @@ fn run_files<F: Fn(&[u8]) -> bool + Drop, I: Inputs, S: Sinks>(
         Ok(session) => match tell_last(alloc, command, &session, sinks) {
             Ok(()) => match tell_state(alloc, command, &session, sinks) {
                 Ok(()) => Ended::Done,
-                Err(halt) => status_of(halt),
+                Err(halt) => halt.status(),
             },
-            Err(halt) => status_of(halt),
+            Err(halt) => halt.status(),
         },
         Err(trouble) => tell_trouble(alloc, command, trouble, sinks),
     }
@@ -159,7 +158,7 @@ fn run_begun<F: Fn(&[u8]) -> bool + Drop, I: Inputs, S: Sinks>(
 {
     match tell_generated(command, sinks) {
         Ok(()) => run_files(alloc, command, beginning, inputs, sinks),
-        Err(halt) => status_of(halt),
+        Err(halt) => halt.status(),
     }
 }
 

@@ -4,8 +4,8 @@ use Rattle.std.specs.Borrow.{Bor}
 use Rattle.std.specs.Cmp.Lexicographic.{pointwise}
 use Rattle.std.proofs.Common.{◌∙◌, ap, arith, get_or, sym}
 use Rattle.std.proofs.lemmas.Bool.{and_parts, false≢true}
-use Rattle.std.proofs.lemmas.List.{flat_map_more, take_more}
-use Rattle.std.proofs.lemmas.List.Concat.{flat_map-cons}
+use Rattle.std.proofs.lemmas.List.{flat_map_more, take-append-drop, take_more}
+use Rattle.std.proofs.lemmas.List.Concat.{flat_map-append, flat_map-cons}
 use Rattle.dk_state.specs.Matching.{behind, is_end, left_behind}
 
 -- ---- one piece after another
@@ -21,6 +21,19 @@ behind_both (x ∷ a) b (y ∷ bytes) = same_choice (x == y) (behind (a ++ b) by
 pub left_behind_both : (a b : List ℕ) (left : Option (List ℕ)) → left_behind (a ++ b) left ≡ left_behind b (left_behind a left)
 left_behind_both a b None = refl
 left_behind_both a b (Some bytes) = behind_both a b bytes
+
+-- no text leaves all
+pub nothing_passed : (left : Option (List ℕ)) → left_behind [] left ≡ left
+nothing_passed None = refl
+nothing_passed (Some bytes) = refl
+
+-- some of the items are passed, and then the others
+pub some_passed : {X : Type 0} (piece : X → List ℕ) (items : List X) (n : ℕ) (left next : Option (List ℕ))
+    → next ≡ left_behind (flat_map piece (take n items)) left → left_behind (flat_map piece (drop n items)) next ≡ left_behind (flat_map piece items) left
+some_passed piece items n left next step =
+    ap (left_behind (flat_map piece (drop n items))) step
+    ∙ sym (left_behind_both (flat_map piece (take n items)) (flat_map piece (drop n items)) left)
+    ∙ ap (λ t. left_behind t left) (sym (flat_map-append piece (take n items) (drop n items)) ∙ ap (flat_map piece) (take-append-drop n items))
 
 -- one piece more of several
 pub one_more_passed : {X : Type 0} (piece : X → List ℕ) (items : List X) (i : ℕ) (item : X) (start left next : Option (List ℕ)) → i < length items

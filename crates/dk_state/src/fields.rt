@@ -13,14 +13,14 @@ use std::alloc::Global;
 pub(crate) fn end_line(text: &mut Text) -> Result<(), NoMemory>
     ensures { OnOk result (text.new ≡ text.old ++ codes "\n") }
 {
-    text.append(b"\n")
+    text.push(b'\n')
 }
 
 /// The field, behind the text.
 pub(crate) fn push_field(text: &mut Text, field: &[u8]) -> Result<(), NoMemory>
     ensures { OnOk result (text.new ≡ text.old ++ behind_blank field.now) }
 {
-    text.append(b" ")?;
+    text.push(b' ')?;
     text.append(field)
 }
 
@@ -28,7 +28,7 @@ pub(crate) fn push_field(text: &mut Text, field: &[u8]) -> Result<(), NoMemory>
 pub(crate) fn push_number<I: Integer>(text: &mut Text, number: I) -> Result<(), NoMemory>
     ensures { OnOk result (text.new ≡ text.old ++ behind_blank (I.text number)) }
 {
-    text.append(b" ")?;
+    text.push(b' ')?;
     text.append_number(number)
 }
 
@@ -46,7 +46,7 @@ pub(crate) fn push_vars(text: &mut Text, vars: &[VarId]) -> Result<(), NoMemory>
 pub(crate) fn push_name(text: &mut Text, name: &[u8]) -> Result<(), NoMemory>
     ensures { OnOk result (text.new ≡ text.old ++ behind_blank (escaped name.now)) }
 {
-    text.append(b" ")?;
+    text.push(b' ')?;
     push_escaped(text, name)
 }
 

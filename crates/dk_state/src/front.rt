@@ -1,5 +1,5 @@
 // What is left of a state file while it is read.
-ghost use Rattle.std.specs.Prelude.{◌≡◌, ◌++◌, ◌-◌, ◌<◌, ◌≤◌, ◌^◌, [], ℕ, ℤ, IfOk, IsTrue, List, Some, length, nat_eq, take, drop, unsigned_abs, unwrap_or};
+ghost use Rattle.std.specs.Prelude.{◌≡◌, ◌++◌, ◌-◌, ◌<◌, ◌≤◌, ◌^◌, [], ℕ, ℤ, IfOk, IfSome, IsTrue, List, Some, length, nat_eq, take, drop, unsigned_abs, unwrap_or};
 ghost use Rattle.std.specs.List.{position_or_len, starts_with};
 ghost use Rattle.std.specs.Fmt.{decimal, signed_decimal};
 ghost use Rattle.dk_base.specs.Names.{escaped};
@@ -10,8 +10,8 @@ ghost use Rattle.dk_state.specs.Lines.{behind_blank};
 ghost use Rattle.dk_state.specs.Reading.{BeginsWith, HasNone, begins_number, ends_field, ends_line};
 
 use dk_base::{
-    Arena, Kind, NoMemory, Text, Value, ValueFault, in_i64, in_u64, parse_value, parse_wide,
-    unescape,
+    Arena, Kind, NoMemory, Text, Value, ValueFault, in_i64, in_u64, parse_integer, parse_value,
+    parse_wide, unescape,
 };
 use std::alloc::Global;
 use std::marker::Model;
@@ -62,6 +62,17 @@ fn in_u32(number: u64) -> Option<u32>
     ensures { number < 2 ^ 32 → result ≡ Some number }
 {
     u32::try_from(number).ok()
+}
+
+// The whole number that a text writes, mostly one of 64 bits.
+fn wide_in(text: &[u8]) -> Option<i128>
+    ensures read { (z : ℤ) → unsigned_abs z < 2 ^ 127 → text.now ≡ signed_decimal z → result ≡ Some z }
+    ensures within { IfSome result (λ z. unsigned_abs z < 2 ^ 127) }
+{
+    match parse_integer(text) {
+        Some(number) => Some(i128::from(number)),
+        None => parse_wide(text),
+    }
 }
 
 // The value that a text writes.
@@ -179,7 +190,7 @@ impl<'a> Front<'a> {
         ensures within { unsigned_abs result < 2 ^ 127 }
         ensures shorter { length self.new ≤ length self.old - 1 }
     {
-        let number = parse_wide(self.field());
+        let number = wide_in(self.field());
         self.or_give_up(number, 0)
     }
 

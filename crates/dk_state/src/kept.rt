@@ -91,8 +91,8 @@ fn push_all_known(alloc: Global, text: &mut Text, all: &[Known]) -> Result<(), N
     Ok(())
 }
 
-/// A slot's line, behind the text.
-pub(crate) fn push_slot(alloc: Global, text: &mut Text, slot: &Slot) -> Result<(), NoMemory>
+// A slot's line, behind the text.
+fn push_slot(alloc: Global, text: &mut Text, slot: &Slot) -> Result<(), NoMemory>
     ensures { OnOk result (text.new ≡ text.old ++ slot_line slot.now) }
 {
     text.append(b"slot")?;
@@ -102,7 +102,8 @@ pub(crate) fn push_slot(alloc: Global, text: &mut Text, slot: &Slot) -> Result<(
     end_line(text)
 }
 
-fn push_slots(alloc: Global, text: &mut Text, slots: &[Slot]) -> Result<(), NoMemory>
+/// The lines of slots, behind the text.
+pub(crate) fn push_slots(alloc: Global, text: &mut Text, slots: &[Slot]) -> Result<(), NoMemory>
     ensures { OnOk result (text.new ≡ text.old ++ flat_map slot_line slots.now) }
 {
     for slot in slots {

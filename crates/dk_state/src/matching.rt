@@ -10,7 +10,7 @@ ghost use Rattle.dk_state.specs.Matching.{is_end, left_behind};
 ghost use Rattle.dk_state.specs.Saved.{kept_lines, saved_text};
 
 use crate::declarations::push_points;
-use crate::kept::{patterns_of, push_constants, push_opening, push_pattern, push_slot};
+use crate::kept::{patterns_of, push_constants, push_opening, push_pattern, push_slots};
 use crate::saving::push_head;
 use dk_base::{NoMemory, Text, VarId};
 use dk_engine::{Engine, Pattern, Slot};
@@ -110,22 +110,28 @@ fn pass_own_patterns(alloc: Global, rest: &mut Rest<'_>, engine: &Engine) -> Res
     pass_patterns(alloc, rest, patterns_of(alloc, engine)?.as_slice())
 }
 
-// Passes a slot's line.
-fn pass_slot(alloc: Global, rest: &mut Rest<'_>, slot: &Slot) -> Result<(), NoMemory>
-    ensures { OnOk result (rest.new ≡ left_behind (slot_line slot.now) rest.old) }
+// How many slots' lines are made at a time.
+const BLOCK: usize = 64;
+
+// Passes the lines of some slots at once.
+fn pass_block(alloc: Global, rest: &mut Rest<'_>, slots: &[Slot]) -> Result<(), NoMemory>
+    ensures { OnOk result (rest.new ≡ left_behind (flat_map slot_line slots.now) rest.old) }
 {
-    let mut line = Text::new(alloc);
-    push_slot(alloc, &mut line, slot)?;
-    rest.pass(line.as_slice());
+    let mut lines = Text::new(alloc);
+    push_slots(alloc, &mut lines, slots)?;
+    rest.pass(lines.as_slice());
     Ok(())
 }
 
-// Passes the lines of slots.
+// Passes the lines of slots, block by block.
 fn pass_slots(alloc: Global, rest: &mut Rest<'_>, slots: &[Slot]) -> Result<(), NoMemory>
     ensures { OnOk result (rest.new ≡ left_behind (flat_map slot_line slots.now) rest.old) }
 {
-    for slot in slots {
-        pass_slot(alloc, rest, slot)?;
+    let mut left = slots;
+    while !left.is_empty() {
+        let (block, behind) = left.split_at(left.len().min(BLOCK));
+        pass_block(alloc, rest, block)?;
+        left = behind;
     }
     Ok(())
 }

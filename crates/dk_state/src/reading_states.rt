@@ -37,7 +37,8 @@ enum Word {
     Other,
 }
 
-fn word_in(field: &[u8]) -> Word
+// The word of any state.
+fn any_word_in(field: &[u8]) -> Word
     ensures { result ≡ state_word_in field.now }
 {
     if same_bytes(field, b"empty") {
@@ -72,6 +73,19 @@ fn word_in(field: &[u8]) -> Word
         Word::Offset
     } else {
         Word::Other
+    }
+}
+
+// The word, which of most states is that of a stretch or a plane.
+fn word_in(field: &[u8]) -> Word
+    ensures { result ≡ state_word_in field.now }
+{
+    if same_bytes(field, b"span") {
+        Word::Span
+    } else if same_bytes(field, b"plane") {
+        Word::Plane
+    } else {
+        any_word_in(field)
     }
 }
 

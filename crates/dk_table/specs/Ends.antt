@@ -45,7 +45,8 @@ IsOfFile count told = ⊤
 -- Behind what was written the run ends with a message where it stopped at a row or a file, and else with nothing more.
 abbrev pub StopEnds : List (List ℕ) → Result (Unit {0}) Stop → Texts → Texts → ℕ → ℕ → Ended → Type 0
 StopEnds names (Ok u) old new before after result = (result ≡ ended.Done) × (new ≡ old) × (after ≡ before)
-StopEnds names (Err (Refused r)) old new before after result = EndsWith ended.Refused Messages (refused_line names r) old new before after result
+StopEnds names (Err (Refused r)) old new before after result =
+    EndsWith ended.Refused Messages (refused_line names r) old new before after result
 StopEnds names (Err (Unstarted place)) old new before after result =
     EndsWith ended.Read Messages (unread_line (file_name_at names place)) old new before after result
 StopEnds names (Err (Unread place)) old new before after result =

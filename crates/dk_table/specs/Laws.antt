@@ -40,8 +40,8 @@ pub record HasTable (c : Command) (files : List (List ℕ)) : Type 0 where
 abbrev pub row_values : List ColumnKind → Placed → List Value
 row_values kinds row = map value_at (zip kinds row.cells)
 
--- A history of this one declaration: its point is the last, behind the implicit exit that a subexit's name makes, and has these samples. No other
--- has one.
+-- A history of this one declaration: its point is the last, behind the implicit exit that a subexit's name makes, and has these samples. No
+-- other has one.
 pub record HasOnly (h : History) (d : PointDecl) (samples : List (List Value)) : Type 0 where
   pub table : h.table ≡ added_points [] d
   pub sampled : h.samples ≡ replicate (length h.table - 1) [] ++ samples ∷ []
@@ -51,8 +51,8 @@ pub record KeepsLimits (line room : ℕ) (bytes : List ℕ) : Type 0 where
   pub lines : All (λ p. length p.bytes ≤ line) (pieces bytes)
   pub whole : length bytes ≤ room
 
--- The trace of a table of at most 1,024 columns, read alone and within a reader's limits, is read to its end. The history then has the point that the
--- columns declare, and for each row, in order, one sample: the values that the row's cells write.
+-- The trace of a table of at most 1,024 columns, read alone and within a reader's limits, is read to its end. The history then has the
+-- point that the columns declare, and for each row, in order, one sample: the values that the row's cells write.
 abbrev pub RowsAreSamples : Type 0
 RowsAreSamples =
     (c : Command) (name : List ℕ) (files : List (List ℕ)) (ws : List Write) → trace_of c name files ≡ Ok ws

@@ -24,7 +24,8 @@ pub record AreAhead (separator : ℕ) (bytes : List ℕ) (marks : Marks) : Type 
   pub ordered : marks.block ≤ length bytes
   pub near : marks.place ≤ marks.block + 64
   pub none : (p : ℕ) → marks.place ≤ p → p < marks.block → ends_cell separator (get_or bytes p 0) ≡ false
-  pub seen : (k : ℕ) → k < 64 → marks.place ≤ marks.block + k → marks.block + k < length bytes → ends_cell separator (get_or bytes (marks.block + k) 0) ≡ true
+  pub seen : (k : ℕ) → k < 64 → marks.place ≤ marks.block + k → marks.block + k < length bytes
+      → ends_cell separator (get_or bytes (marks.block + k) 0) ≡ true
       → bit_at marks.ahead k ≡ 1
   pub low : (k : ℕ) → k < 64 → bit_at marks.ahead k ≡ 1 → marks.place ≤ marks.block + k
   pub within : (k : ℕ) → k < 64 → bit_at marks.ahead k ≡ 1 → marks.block + k < length bytes

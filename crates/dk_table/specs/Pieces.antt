@@ -34,7 +34,8 @@ FilledSays Ended text rest rose = IsAtEnd rest
 FilledSays Failed text rest rose = rose
 
 abbrev pub FillsSays : List ℕ → List ℕ → Option (List ℕ) → Option (List ℕ) → Type 0 → Filled → Type 0
-FillsSays old new before after rose filled = (got : List ℕ) × (new ≡ old ++ got) × (before ≡ prepend_known got after) × FilledSays filled new after rose
+FillsSays old new before after rose filled =
+    (got : List ℕ) × (new ≡ old ++ got) × (before ≡ prepend_known got after) × FilledSays filled new after rose
 
 -- Of a file of which this is told the text was gathered, behind the byte order mark, and this is left.
 abbrev pub IsGathered : Filled → HeldFile → List ℕ → Option (List ℕ) → Type 0 → Type 0

@@ -50,7 +50,8 @@ abbrev pub reached_stream : (c : Command) → List ℕ → ℕ → {helds : List
 reached_stream c point types reached = stream_in c point types reached.contents (Some reached.front)
 
 -- The file behind those that were read can't be read. What was reached has no refusal, and was written.
-pub record IsStopped (c : Command) (point : List ℕ) (types : ℕ) (names : List (List ℕ)) (file : List ℕ → HeldFile) (rose : Type 0) (by : Break)
+pub record IsStopped (c : Command) (point : List ℕ) (types : ℕ)
+    (names : List (List ℕ)) (file : List ℕ → HeldFile) (rose : Type 0) (by : Break)
     (base new : Texts) (start after place : ℕ) : Type 0 where
   pub reached : Reached c (helds_of names file)
   pub here : place ≡ length reached.contents
@@ -71,15 +72,20 @@ abbrev pub StopSays : Command → List ℕ → ℕ → List (List ℕ) → (List
 StopSays c point types names file rose base new start after (Refused r) =
     (reached : Reached c (helds_of names file)) × ((reached_stream c point types reached).refusal ≡ Some r)
     × (new ≡ with_bytes base Report (trace_text (reached_stream c point types reached).written)) × (after ≡ start)
-StopSays c point types names file rose base new start after (Unstarted place) = IsStopped c point types names file rose AtStart base new start after place
-StopSays c point types names file rose base new start after (Unread place) = IsStopped c point types names file rose Within base new start after place
+StopSays c point types names file rose base new start after (Unstarted place) =
+    IsStopped c point types names file rose AtStart base new start after place
+StopSays c point types names file rose base new start after (Unread place) =
+    IsStopped c point types names file rose Within base new start after place
 StopSays c point types names file rose base new start after Write =
-    (reached : Reached c (helds_of names file)) × AddsFront base new Report (trace_text (reached_stream c point types reached).written) × Rose start after
+    (reached : Reached c (helds_of names file))
+    × AddsFront base new Report (trace_text (reached_stream c point types reached).written) × Rose start after
 StopSays c point types names file rose base new start after NoMemory =
-    (reached : Reached c (helds_of names file)) × AddsFront base new Report (trace_text (reached_stream c point types reached).written) × (after ≡ start)
+    (reached : Reached c (helds_of names file))
+    × AddsFront base new Report (trace_text (reached_stream c point types reached).written) × (after ≡ start)
 
 -- The files in front were read, and what they come to was written.
-pub record AreBehind (c : Command) (point : List ℕ) (types : ℕ) (names : List (List ℕ)) (file : List ℕ → HeldFile) (place : ℕ) (contents : List (List ℕ))
+pub record AreBehind (c : Command) (point : List ℕ) (types : ℕ) (names : List (List ℕ))
+    (file : List ℕ → HeldFile) (place : ℕ) (contents : List (List ℕ))
     (stage : Stage) (base new : Texts) (start after : ℕ) : Type 0 where
   pub many : length contents ≡ place
   pub read : AreReadAs (take (length contents) (helds_of names file)) contents
@@ -90,7 +96,8 @@ pub record AreBehind (c : Command) (point : List ℕ) (types : ℕ) (names : Lis
   pub calm : after ≡ start
 
 -- The file behind them is gone through: so much is gone, and so much is gathered behind it.
-pub record IsGoing (c : Command) (point : List ℕ) (types : ℕ) (names : List (List ℕ)) (file : List ℕ → HeldFile) (rose : Type 0) (place : ℕ) (contents : List (List ℕ))
+pub record IsGoing (c : Command) (point : List ℕ) (types : ℕ) (names : List (List ℕ))
+    (file : List ℕ → HeldFile) (rose : Type 0) (place : ℕ) (contents : List (List ℕ))
     (going : Going) (rest : Option (List ℕ)) (base new : Texts) (start after : ℕ) : Type 0 where
   pub gone : List ℕ
   pub many : length contents ≡ place
@@ -100,19 +107,25 @@ pub record IsGoing (c : Command) (point : List ℕ) (types : ℕ) (names : List 
   pub within : IsWithin c point types contents gone going.place
   pub none : (rows_stream c point types (all_rows c.separator 0 contents ++ text_rows c.separator (length contents) gone)).refusal ≡ None
   pub gathered : IsGathered going.filled (held_file_at (helds_of names file) (length contents)) (gone ++ going.text) rest rose
-  pub written : new ≡ with_bytes base Report (trace_text (rows_stream c point types (all_rows c.separator 0 contents ++ text_rows c.separator (length contents) gone)).written)
+  pub written : new
+      ≡ with_bytes base Report (trace_text (rows_stream c point types (all_rows c.separator 0 contents
+      ++ text_rows c.separator (length contents) gone)).written)
   pub calm : after ≡ start
 
-abbrev pub PieceGoes : Command → List ℕ → ℕ → List (List ℕ) → (List ℕ → HeldFile) → Type 0 → ℕ → List (List ℕ) → Option (List ℕ) → Texts → Texts → ℕ → ℕ → Result Going Stop → Type 0
+abbrev pub PieceGoes : Command → List ℕ → ℕ → List (List ℕ) → (List ℕ → HeldFile) → Type 0
+    → ℕ → List (List ℕ) → Option (List ℕ) → Texts → Texts → ℕ → ℕ → Result Going Stop → Type 0
 PieceGoes c point types names file rose place contents rest base new start after (Ok going) =
     IsGoing c point types names file rose place contents going rest base new start after
-PieceGoes c point types names file rose place contents rest base new start after (Err stop) = StopSays c point types names file rose base new start after stop
+PieceGoes c point types names file rose place contents rest base new start after (Err stop) =
+    StopSays c point types names file rose base new start after stop
 
 -- Behind such files this one was read as well, or the run stops.
-abbrev pub FileGoes : Command → List ℕ → ℕ → List (List ℕ) → (List ℕ → HeldFile) → Type 0 → ℕ → List (List ℕ) → Texts → Texts → ℕ → ℕ → Result Stage Stop → Type 0
+abbrev pub FileGoes : Command → List ℕ → ℕ → List (List ℕ) → (List ℕ → HeldFile)
+    → Type 0 → ℕ → List (List ℕ) → Texts → Texts → ℕ → ℕ → Result Stage Stop → Type 0
 FileGoes c point types names file rose place contents base new start after (Ok stage) =
     (bytes : List ℕ) × AreBehind c point types names file (place + 1) (contents ++ bytes ∷ []) stage base new start after
-FileGoes c point types names file rose place contents base new start after (Err stop) = StopSays c point types names file rose base new start after stop
+FileGoes c point types names file rose place contents base new start after (Err stop) =
+    StopSays c point types names file rose base new start after stop
 
 -- All files were read, and what they come to was written, or a front of it.
 abbrev pub EndedSays : Command → List ℕ → ℕ → List (List ℕ) → (List ℕ → HeldFile) → Texts → Texts → ℕ → ℕ → Result (Unit {0}) Stop → Type 0
@@ -120,7 +133,8 @@ EndedSays c point types names file old new before after result =
     (contents : List (List ℕ)) × AreReadAs (helds_of names file) contents
     × (let stream = stream_at c point types contents in Writes (trace_text stream.written) stream.refusal old new before after result)
 
-abbrev pub StreamSays : Command → List ℕ → ℕ → List (List ℕ) → (List ℕ → HeldFile) → Type 0 → Texts → Texts → ℕ → ℕ → Result (Unit {0}) Stop → Type 0
+abbrev pub StreamSays : Command → List ℕ → ℕ → List (List ℕ) → (List ℕ → HeldFile)
+    → Type 0 → Texts → Texts → ℕ → ℕ → Result (Unit {0}) Stop → Type 0
 StreamSays c point types names file rose old new before after (Ok u) = EndedSays c point types names file old new before after (Ok u)
 StreamSays c point types names file rose old new before after (Err stop) =
     StopSays c point types names file rose old new before after stop ⊎ EndedSays c point types names file old new before after (Err stop)

@@ -52,7 +52,8 @@ first_names header [] = None
 first_names header (row ∷ rows) = Some (names_by header row.cells)
 
 -- ---- what is known of the columns, behind these rows
--- The rows so far, by which kinds are found, are held, and more are to be looked at. The names are those that all rows give, with these behind.
+-- The rows so far, by which kinds are found, are held, and more are to be looked at. The names are those that all rows give, with these
+-- behind.
 pub record IsReady (c : Command) (types : ℕ) (front : Front) (rows own : List Placed) : Type 0 where
   pub some : 0 < length (rows ++ own)
   pub names : front.names ≡ names_by c.has_header (first_cells (rows ++ own))
@@ -88,8 +89,10 @@ IsAt c point types (stage.Front front) rows = IsFront c types front rows
 IsAt c point types (stage.Body body) rows = IsBody c point types body rows
 
 -- ---- what a chunk adds
--- Behind rows of this stage come these: what all come to was written, and then this is known; or the table is refused; or a front of it was.
-abbrev pub Goes : {A : Type 0} → Command → List ℕ → ℕ → Stage → List Placed → Texts → Texts → ℕ → ℕ → (A → List Placed → Type 0) → Result A Stop → Type 0
+-- Behind rows of this stage come these: what all come to was written, and then this is known; or the table is refused; or a front of it
+-- was.
+abbrev pub Goes : {A : Type 0} → Command → List ℕ → ℕ → Stage → List Placed
+    → Texts → Texts → ℕ → ℕ → (A → List Placed → Type 0) → Result A Stop → Type 0
 Goes c point types stage own old new before after Stands result =
     (rows : List Placed) (base : Texts) (start : ℕ) → IsAt c point types stage rows
     → old ≡ with_bytes base Report (trace_text (rows_stream c point types rows).written) → before ≡ start

@@ -39,8 +39,8 @@ abbrev pub judged_whole : Result (List Block) Refusal → Written
 judged_whole (Ok blocks) = record { written = blocks; refusal = None }
 judged_whole (Err refusal) = nothing_but refusal
 
--- What is written of files of these contents, and why no more is. Where kinds are found by so many rows, the others are written as they come; else
--- all rows are judged before anything is written.
+-- What is written of files of these contents, and why no more is. Where kinds are found by so many rows, the others are written as they
+-- come; else all rows are judged before anything is written.
 abbrev pub written_by : Option ℕ → TableArguments → List (List ℕ) → Written
 written_by (Some (suc n)) a contents = stream_at a.command (point_of a) (suc n) contents
 written_by types a contents = judged_whole (trace_at a.command (point_of a) contents)
@@ -85,13 +85,14 @@ pub record IsRefusedWithin (a : TableArguments) (before : Outside) (output : Out
   pub refused : (written_of a reached).refusal ≡ Some refusal
   pub output_is : output ≡ told (trace_text (written_of a reached).written) (refused_line a.files refusal)
 
--- A file could not be read. What was reached in front of the fault isn't refused; what is written of it and the file's message are all that the run
--- says.
+-- A file could not be read. What was reached in front of the fault isn't refused; what is written of it and the file's message are all that
+-- the run says.
 pub record IsUnread (a : TableArguments) (before after : Outside) (output : Output) : Type 0 where
   pub by : Break
   pub reached : Reached a.command (helds_of a.files before.file)
   pub named : length reached.contents < length a.files
-  pub cause : HasBroken by (held_file_at (helds_of a.files before.file) (length reached.contents)) (Rose before.read_faults after.read_faults)
+  pub cause : HasBroken by (held_file_at (helds_of a.files before.file) (length reached.contents))
+      (Rose before.read_faults after.read_faults)
   pub own : IsFrontBy by reached.front
   pub none : (written_of a reached).refusal ≡ None
   pub output_is : output ≡ told (trace_text (written_of a reached).written) (unread_line (file_name_at a.files (length reached.contents)))

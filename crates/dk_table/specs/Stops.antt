@@ -20,8 +20,8 @@ abbrev pub stop_of_halt : Halt → Stop
 stop_of_halt halt.Write = Write
 stop_of_halt halt.NoMemory = NoMemory
 
--- The text that is due was written to the report but for its end, which is left, and then comes this refusal, where there is one; or a front
--- of it was written.
+-- The text that is due was written to the report but for its end, which is left, and then comes this refusal, where there is one; or a
+-- front of it was written.
 abbrev pub Gathers : {A : Type 0} → List ℕ → Option Refusal → List ℕ → Texts → Texts → ℕ → ℕ → Result A Stop → Type 0
 Gathers due refusal left old new before after (Ok u) = (refusal ≡ None) × IsTold due left old new before after
 Gathers due refusal left old new before after (Err (Refused r)) = (refusal ≡ Some r) × IsTold due left old new before after

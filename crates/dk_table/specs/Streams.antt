@@ -133,7 +133,8 @@ names_in c contents next = names_by c.has_header (first_cells (first_rows c.sepa
 abbrev pub stream_in : Command → List ℕ → ℕ → List (List ℕ) → Option (List ℕ) → Stream
 stream_in c point types contents next =
     let names = names_in c contents next in
-    stream_with point names types (is_none next) (all_steps c names 0 contents ++ rows_steps c.has_header names (next_rows c.separator (length contents) next))
+    stream_with point names types (is_none next)
+    (all_steps c names 0 contents ++ rows_steps c.has_header names (next_rows c.separator (length contents) next))
 
 abbrev pub no_rows : Stream
 no_rows = nothing_but (record { file = 0; row = 1; why = NoHeader })

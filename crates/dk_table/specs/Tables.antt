@@ -86,7 +86,8 @@ Err refusal >>= f = Err refusal
 -- the rows of all files, the first of which has this place
 abbrev pub rows_of_all : Command → List (List ℕ) → ℕ → List (List ℕ) → Result (List Placed) Refusal
 rows_of_all c names file [] = Ok []
-rows_of_all c names file (bytes ∷ more) = file_rows c names file bytes >>= λ front. rows_of_all c names (file + 1) more >>= λ rest. Ok (front ++ rest)
+rows_of_all c names file (bytes ∷ more) =
+    file_rows c names file bytes >>= λ front. rows_of_all c names (file + 1) more >>= λ rest. Ok (front ++ rest)
 
 -- ---- the columns
 

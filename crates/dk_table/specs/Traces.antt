@@ -110,7 +110,8 @@ if_told None ws = Ok ws
 -- ---- the trace
 -- the trace of a table with this declaration and columns of these kinds, or why there is none
 unfoldable pub trace_by : PointDecl → List ColumnKind → List Placed → Result (List Write) Refusal
-trace_by d kinds rows = if are_named d then if_told (option_map bad_cell (untold_row kinds rows)) (writes_of d kinds rows) else refused 0 1 BadName
+trace_by d kinds rows =
+    if are_named d then if_told (option_map bad_cell (untold_row kinds rows)) (writes_of d kinds rows) else refused 0 1 BadName
 
 abbrev pub trace_with : List ℕ → List (List ℕ) → List ColumnKind → List Placed → Result (List Write) Refusal
 trace_with point names kinds rows = trace_by (declaration_of point names kinds) kinds rows
@@ -119,8 +120,8 @@ trace_with point names kinds rows = trace_by (declaration_of point names kinds) 
 abbrev pub trace_of_table : List ℕ → Option ℕ → List (List ℕ) → List Placed → Result (List Write) Refusal
 trace_of_table point types names rows = trace_with point names (kinds_of (judged types rows) (length names)) rows
 
--- The trace of the tables in files of these bytes at the point of this name, or why there is none: names by the first row, the rows of all files,
--- and then the trace.
+-- The trace of the tables in files of these bytes at the point of this name, or why there is none: names by the first row, the rows of all
+-- files, and then the trace.
 abbrev pub trace_at : Command → List ℕ → List (List ℕ) → Result (List Write) Refusal
 trace_at c point files =
     names_of c.has_header (rows_in c.separator 0 (first_of files)) >>= λ names. rows_of_all c names 0 files >>= λ rows.

@@ -33,8 +33,8 @@ abbrev pub TellsFront : {A : Type 0} → List ℕ → Texts → Texts → ℕ �
 TellsFront due old new before after (Ok u) = (new ≡ with_bytes old Report due) × (after ≡ before)
 TellsFront due old new before after (Err halt) = AddsFront old new Report due × HaltHasCause before after halt
 
--- The text was written to the stream, no write failed, and the run has this status; or a write failed, or memory ran out, and a front of the
--- text was written.
+-- The text was written to the stream, no write failed, and the run has this status; or a write failed, or memory ran out, and a front of
+-- the text was written.
 abbrev pub EndsCut : Ended → Stream → List ℕ → Texts → Texts → ℕ → ℕ → Ended → Type 0
 EndsCut status stream text old new before after result =
     ((result ≡ status) × (new ≡ with_bytes old stream text) × (after ≡ before))

@@ -19,7 +19,8 @@ abbrev pub lines_of_groups : Groups → List (List (List ℕ))
 lines_of_groups (Group ls close rest) = bytes_of ls ∷ lines_of_groups rest
 lines_of_groups (Last ls end) = bytes_of ls ∷ []
 
--- What stands between the blank lines of a file: the longest runs of lines that aren't blank, without the blanks and tabs at the lines' ends.
+-- What stands between the blank lines of a file: the longest runs of lines that aren't blank, without the blanks and tabs at the lines'
+-- ends.
 -- Where two blank lines follow each other, a run of no lines stands between them.
 abbrev pub runs_of : List ℕ → List (List (List ℕ))
 runs_of file = lines_of_groups (groups_of (numbered 0 (lines_of file)))

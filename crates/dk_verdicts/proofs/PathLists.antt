@@ -3,12 +3,12 @@ use Rattle.std.specs.Prelude.{◌≡◌, ◌==◌, ◌+◌, ◌≤◌, ◌++◌,
 use Rattle.std.proofs.Common.{ap, arith, inl, inr, length-append, subst, sym}
 use Rattle.std.proofs.lemmas.Bool.{eq-eqb, eqb-true}
 use Rattle.dk_graph.proofs.Members.{Has, contained-has, filter-has, has-append, has-cons, has-contained, has-filter, has-first, has-later, has-left, has-map, has-none, has-right}
+use Rattle.dk_graph.proofs.Ranked.{deeper}
 use Rattle.dk_graph.proofs.Walks.{path-append}
 use Rattle.dk_graph.specs.Graphs.{ParentsAreDeeper, depth_of, edges, edges_into}
 use Rattle.dk_graph.specs.Paths.{IsPath}
 use Rattle.dk_graph.specs.declared.nodes.Edge.{Edge}
 use Rattle.dk_graph.specs.declared.nodes.Node.{Node}
-use Rattle.dk_hierarchy.proofs.Deeper.{deeper}
 use Rattle.dk_verdicts.specs.Laws.{PathsAreAll}
 use Rattle.dk_verdicts.specs.Paths.{empty_path, paths_to, paths_within}
 

@@ -38,7 +38,8 @@ LaterPointsAreNotReached = (r : Record) → r.point < length r.table → (q : �
 abbrev pub RecordsReachAlongPaths : Type 0
 RecordsReachAlongPaths =
     (r : Record) (q : ℕ)
-    → reaching q r ≡ map (λ path. along r.table path (values_by_form (all_vars_of r.table r.point) r.values)) (paths_to (nodes r.table) r.point q)
+    → reaching q r
+    ≡ map (λ path. along r.table path (values_by_form (all_vars_of r.table r.point) r.values)) (paths_to (nodes r.table) r.point q)
 
 -- In a table without a cycle these are all paths,
 abbrev pub PathsAreAll : Type 0
@@ -48,7 +49,8 @@ PathsAreAll =
 -- and each of them comes once.
 abbrev pub PathsAreOnce : Type 0
 PathsAreOnce =
-    (ns : List Node) (p q i j : ℕ) (path : List Edge) → slice_get (paths_to ns p q) i ≡ Some path → slice_get (paths_to ns p q) j ≡ Some path
+    (ns : List Node) (p q i j : ℕ) (path : List Edge)
+    → slice_get (paths_to ns p q) i ≡ Some path → slice_get (paths_to ns p q) j ≡ Some path
     → i ≡ j
 
 -- a claim that is violated stays so with more records

@@ -31,8 +31,8 @@ module _ (asked : Bool) (slots : List Slot) (from to : ℕ) (item : Slot) (withi
         let f : from ≤ k = omega (arith, first, a) in
         stays_of_still asked (slot_in slots from).row (slot_in slots k) (run k f l) (whole k no_slot (omega (arith, l, long))) after sample (subst (λ (r : RowId). IsStill r sample (slot_in slots k)) row_at_hand (still k a b))
 
-pub run_to-place-requires-clause-of_row : goal.run_to-place-requires-clause-of_row
-run_to-place-requires-clause-of_row c =
+pub still_to-place-requires-clause-of_row : goal.still_to-place-requires-clause-of_row
+still_to-place-requires-clause-of_row c =
     let order = c.requires.from in
     let most = c.requires.to in
     all_of_row c.args.asked c.args.slots.now c.args.from c.args.to c.index-slots-from.result (omega (arith, order, most)) c.requires.run
@@ -47,10 +47,10 @@ loop-place-init c =
     let to = c.args.to in
     let order = c.requires.from in
     let most = c.requires.to in
-    let told = c.run_to-place.ensures in
-    let still : StayBetween from c.run_to-place.result (outcome asked after o.sample) slots =
-    stay asked slots from to c.index-slots-from.result (omega (arith, order, most)) c.requires.run after o.sample c.requires.unbroken most from c.run_to-place.result (omega arith) told.to told.still in
-    (found_stay (outcome asked after o.sample) slots from c.args.found.now c.requires.below c.run_to-place.result still, told.from, told.to)
+    let told = c.still_to-place.ensures in
+    let still : StayBetween from c.still_to-place.result (outcome asked after o.sample) slots =
+    stay asked slots from to c.index-slots-from.result (omega (arith, order, most)) c.requires.run after o.sample c.requires.unbroken most from c.still_to-place.result (omega arith) told.to told.still in
+    (found_stay (outcome asked after o.sample) slots from c.args.found.now c.requires.below c.still_to-place.result still, told.from, told.to)
 
 pub loop-place-preserved : goal.loop-place-preserved
 loop-place-preserved c =
@@ -65,9 +65,9 @@ loop-place-preserved c =
     let place = c.loop-place.place in
     let first = c.loop-place.invariant.1 in
     let test = c.loop-place-test.true in
-    let told = c.run_to-place-in-loop-place.ensures in
+    let told = c.still_to-place-in-loop-place.ensures in
     let behind = told.from in
-    let r = c.run_to-place-in-loop-place.result in
+    let r = c.still_to-place-in-loop-place.result in
     let within : from < length slots = omega (arith, order, most) in
     let still : StayBetween (place + 1) r (outcome asked after o.sample) slots =
     stay asked slots from to c.index-slots-from.result within c.requires.run after o.sample c.requires.unbroken most (place + 1) r (omega (arith, first)) told.to told.still in

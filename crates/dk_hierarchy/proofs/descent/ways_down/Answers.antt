@@ -1,11 +1,11 @@
-use Rattle.std.specs.Prelude.{◌≡◌, [], List, length}
+use Rattle.std.specs.Prelude.{◌≡◌, [], ◌∷◌, ℕ, List, length, slice_index}
 use Rattle.std.proofs.Common.{◌∙◌, ap, arith, subst, sym}
 use Rattle.dk_engine.specs.Levels.{Whole}
-use Rattle.dk_graph.specs.Graphs.{depth_of}
-use Rattle.dk_points.specs.Links.{nodes}
-use Rattle.dk_hierarchy.proofs.Descending.{begun}
+use Rattle.dk_points.proofs.Nodes.{length-nodes}
+use Rattle.dk_hierarchy.proofs.Following.{at_first, ways_taken}
+use Rattle.dk_hierarchy.proofs.MoreWays.{above_all, above_below, above_last}
 use Rattle.dk_hierarchy.proofs.TableEngines.{vars_are, vars_few}
-use Rattle.dk_hierarchy.specs.Descent.{IsDescent, first_levels}
+use Rattle.dk_hierarchy.specs.Descent.{AreLevels, IsDescent, first_way, ways_in, with_way_at}
 use Rattle.dk_hierarchy.specs.Samples.{all_vars_of}
 use Rattle.dk_hierarchy.specs.declared.way.Way.{Way}
 use Rattle.dk_hierarchy.proofs.descent.ways_down.Goals as goal
@@ -17,14 +17,42 @@ overflow_cast-number c =
     let read = ap (λ (e : Whole). length e.infos) c.index-engines-top.is in
     omega (arith, few, same, read)
 
-pub loop-level-init : goal.loop-level-init
-loop-level-init c =
+pub bounds-ranks-top : goal.bounds-ranks-top
+bounds-ranks-top c =
+    let all = c.ranks-ranks.ensures.all in
+    let long = length-nodes c.args.points.now in
+    omega (arith, all, long, c.requires.point)
+
+pub loop-rank-init : goal.loop-rank-init
+loop-rank-init c =
     let ps = c.args.points.now in
     let p = c.args.top.0 in
+    let rank = slice_index c.ranks-ranks.result.now p in
     let number : length c.vars.result.now ≡ length (all_vars_of ps p) =
     ap length c.vars.ensures
     ∙ ap length (vars_are ps c.args.engines.now c.requires.engines p c.index-engines-top.result c.requires.point c.index-engines-top.is) in
-    let levels : c.in_ok-levels.levels.items ≡ first_levels p (length (all_vars_of ps p)) (depth_of (nodes ps) p) =
-    c.in_ok-levels.ensures ∙ (ap (λ n. first_levels p n c.depth.result) number ∙ ap (first_levels p (length (all_vars_of ps p))) c.depth.ensures.depth) in
-    subst (λ (ws : List Way). IsDescent ps p ws c.in_ok-levels.levels.items) (sym c.new-ways.ensures)
-    (subst (λ (ls : List (List Way)). IsDescent ps p [] ls) (sym levels) (begun ps c.depth.ensures.parents p c.requires.point))
+    let first : c.in_ok-first.first ≡ first_way p (length (all_vars_of ps p)) = c.in_ok-first.ensures ∙ ap (first_way p) number in
+    let levels : c.add.new.self ≡ (rank, first_way p (length (all_vars_of ps p)) ∷ []) ∷ [] =
+    c.in_ok-add.ensures
+    ∙ (ap (λ (ls : List (ℕ × List Way)). with_way_at ls rank c.in_ok-first.first) c.new-levels.ensures
+    ∙ ap (λ (w : Way). (rank, w ∷ []) ∷ []) first) in
+    subst (λ (ws : List Way). IsDescent ps p ws (ways_in c.add.new.self) × AreLevels c.ranks-ranks.result.now c.add.new.self) (sym c.new-ways.ensures)
+    (at_first ps c.ranks-ranks.result.now p c.requires.point c.add.new.self levels)
+
+pub follow-requires-clause-descent : goal.follow-requires-clause-descent
+follow-requires-clause-descent c =
+    subst (IsDescent c.args.points.now c.args.top.0 c.loop-rank.ways)
+    (ways_taken c.loop-rank.levels c.pop.new.self c.in-Some.rank c.in-Some.level c.in-Some.ensures.some) c.loop-rank.invariant.0
+
+pub follow-requires-clause-levels : goal.follow-requires-clause-levels
+follow-requires-clause-levels c = subst (AreLevels c.ranks-ranks.result.now) c.in-Some.ensures.some c.loop-rank.invariant.1
+
+pub loop-rank-smaller : goal.loop-rank-smaller
+loop-rank-smaller c =
+    let taken = ap above_all c.in-Some.ensures.some in
+    let last = above_last c.pop.new.self (c.in-Some.rank, c.in-Some.level) in
+    let below = above_below c.in-Some.rank c.follow.new.levels c.in_ok-follow.ensures.below in
+    omega (arith, taken, last, below)
+
+pub returns : goal.returns
+returns c = subst (λ (ls : List (ℕ × List Way)). IsDescent c.args.points.now c.args.top.0 c.loop-rank.ways (ways_in ls)) c.in_default.ensures.none c.loop-rank.invariant.0

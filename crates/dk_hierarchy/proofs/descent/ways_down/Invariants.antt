@@ -1,9 +1,9 @@
-use Rattle.std.proofs.Common.{vec_len}
-use Rattle.dk_hierarchy.specs.Descent.{IsDescent}
+use Rattle.dk_hierarchy.proofs.MoreWays.{above_all}
+use Rattle.dk_hierarchy.specs.Descent.{AreLevels, IsDescent, ways_in}
 use Rattle.dk_hierarchy.proofs.descent.ways_down.Given as goal
 
-abbrev pub invariant-loop-level : goal.invariant-loop-level
-invariant-loop-level l = IsDescent l.points l.fn.top.0 l.ways l.levels.items
+abbrev pub invariant-loop-rank : goal.invariant-loop-rank
+invariant-loop-rank l = IsDescent l.points l.fn.top.0 l.ways (ways_in l.levels) × AreLevels l.descent.ranks.now l.levels
 
-abbrev pub decreases-loop-level : goal.decreases-loop-level
-decreases-loop-level l = vec_len l.levels
+abbrev pub decreases-loop-rank : goal.decreases-loop-rank
+decreases-loop-rank l = above_all l.levels

@@ -13,7 +13,7 @@ returns-in-Ok-tell_last g c =
 
 pub returns-in-Ok : goal.returns-in-Ok
 returns-in-Ok g c =
-    rw c.status_of.ensures (cut_loaded c.args.command.now c.args.loaded (SessionStandsFor c.in-Ok.session) _ c.in-Ok.ensures.stands
+    rw c.status.ensures (cut_loaded c.args.command.now c.args.loaded (SessionStandsFor c.in-Ok.session) _ c.in-Ok.ensures.stands
     (λ h. ap (λ blocks. option_map_or (λ every. end_line blocks) c.args.command.now.every [] ++ whole_report c.args.command.now h) c.in-Ok.ensures.counts.0) _ _ _ _ c.in-Err-tell_last.halt c.in-Err-tell_last.ensures)
 
 pub returns : goal.returns

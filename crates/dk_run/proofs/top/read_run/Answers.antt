@@ -3,9 +3,9 @@ use Rattle.dk_run.proofs.Saying.{run_gives}
 use Rattle.dk_run.proofs.Writing.{written_behind}
 use Rattle.dk_run.proofs.top.read_run.Goals as goal
 
-pub returns-in-Ok-read_generated-clause-gives : goal.returns-in-Ok-read_generated-clause-gives
-returns-in-Ok-read_generated-clause-gives g c =
-    let first = c.in-Ok-read_generated.ensures.gives in
+pub returns-clause-gives : goal.returns-clause-gives
+returns-clause-gives g c =
+    let first = c.in_ok-session.ensures.gives in
     let more = c.read_files.ensures.gives in
     record {
       text = first.text ++ more.text;

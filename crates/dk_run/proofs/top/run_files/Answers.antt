@@ -16,14 +16,14 @@ pub returns-in-Ok-tell_last-clause-says : goal.returns-in-Ok-tell_last-clause-sa
 returns-in-Ok-tell_last-clause-says g c before come first =
     let told = c.in-Ok.ensures.gives in
     let read = subst (λ (f : List ℕ → HeldFile). AreReadTo c.args.command.now f (g.I.Inputs.rest c.args.inputs.now) (g.I.Inputs.rest c.read_run.new.inputs) c.in-Ok.session told.holds.0 (length (file_names c.args.command.now)) told.text) come.file told.holds.1 in
-    rw c.status_of.ensures (state_says c.args.command.now before _ _ c.in-Ok.session told.holds.0 _ _ _ _ _ told.text c.in-Err-tell_state.halt (behind_of c.args.command.now before _ c.args.beginning come)
+    rw c.status.ensures (state_says c.args.command.now before _ _ c.in-Ok.session told.holds.0 _ _ _ _ _ told.text c.in-Err-tell_state.halt (behind_of c.args.command.now before _ c.args.beginning come)
     first told.written (c.in-Ok.ensures.calm ∙ come.calm) read c.in-Ok-tell_last.ensures c.in-Err-tell_state.ensures)
 
 pub returns-in-Ok-clause-says : goal.returns-in-Ok-clause-says
 returns-in-Ok-clause-says g c before come first =
     let told = c.in-Ok.ensures.gives in
     let read = subst (λ (f : List ℕ → HeldFile). AreReadTo c.args.command.now f (g.I.Inputs.rest c.args.inputs.now) (g.I.Inputs.rest c.read_run.new.inputs) c.in-Ok.session told.holds.0 (length (file_names c.args.command.now)) told.text) come.file told.holds.1 in
-    rw c.status_of-in-Err-tell_last.ensures (cut_says c.args.command.now before _ _ c.in-Ok.session told.holds.0 _ _ _ told.text c.in-Err-tell_last.halt (behind_of c.args.command.now before _ c.args.beginning come)
+    rw c.status-in-Err-tell_last.ensures (cut_says c.args.command.now before _ _ c.in-Ok.session told.holds.0 _ _ _ told.text c.in-Err-tell_last.halt (behind_of c.args.command.now before _ c.args.beginning come)
     first told.written (c.in-Ok.ensures.calm ∙ come.calm) read c.in-Err-tell_last.ensures)
 
 pub tell_trouble-requires : goal.tell_trouble-requires

@@ -19,20 +19,20 @@ pub returns-in-Nothing-clause-gives : goal.returns-in-Nothing-clause-gives
 returns-in-Nothing-clause-gives c h stands =
     subst (λ (f : Found). TakenAs (Ok (c.args.self.now, event.Nothing)) (outcome_of h (Some f))) (sym c.in-Nothing.is) (h, stands, (Some Nothing, refl, refl))
 
-pub returns-in-Ok-clause-gives : goal.returns-in-Ok-clause-gives
-returns-in-Ok-clause-gives c h stands =
-    let is : c.declare.result ≡ Ok c.in-Ok.declared = search rules in
+pub returns-in_ok-declare-in-Declaration-clause-gives : goal.returns-in_ok-declare-in-Declaration-clause-gives
+returns-in_ok-declare-in-Declaration-clause-gives c h stands =
+    let is : c.declare.result ≡ Ok c.in_ok-declare-in-Declaration.field-0 = search rules in
     let comes : Result Taken LineFault = with_declaration h c.in-Declaration.line c.in-Declaration.decl in
     subst (λ (f : Found). TakenAs (Ok (c.declare.new.self, c.event_of.result)) (outcome_of h (Some f))) (sym c.in-Declaration.is)
-    (declaration_taken c.declare.new.self c.in-Ok.declared c.event_of.result comes c.event_of.ensures.event
+    (declaration_taken c.declare.new.self c.in_ok-declare-in-Declaration.field-0 c.event_of.result comes c.event_of.ensures.event
     (subst (λ (r : Result Declared Fault). DeclareGives (reader_left (left_with_answer c.declare.new.self r)) comes) is (c.declare.ensures.gives h stands)))
 
-pub returns-in-Ok-sample-clause-gives : goal.returns-in-Ok-sample-clause-gives
-returns-in-Ok-sample-clause-gives c h stands =
-    subst (λ (f : Found). TakenAs (Ok (c.args.self.now, c.in-Ok-sample.event)) (outcome_of h (Some f))) (sym c.in-Sample.is)
-    (sample_taken c.args.self.now h c.in-Sample.point c.in-Sample.line c.in-Sample.values c.vars.result.now c.in-Ok-sample.event stands c.vars.ensures c.in-Ok-sample.ensures.event)
+pub returns-in-Ok-clause-gives : goal.returns-in-Ok-clause-gives
+returns-in-Ok-clause-gives c h stands =
+    subst (λ (f : Found). TakenAs (Ok (c.args.self.now, c.in-Ok.event)) (outcome_of h (Some f))) (sym c.in-Sample.is)
+    (sample_taken c.args.self.now h c.in-Sample.point c.in-Sample.line c.in-Sample.values c.vars.result.now c.in-Ok.event stands c.vars.ensures c.in-Ok.ensures.event)
 
-pub returns-in-Ok-sample-clause-fits : goal.returns-in-Ok-sample-clause-fits
-returns-in-Ok-sample-clause-fits c =
+pub returns-in-Ok-clause-fits : goal.returns-in-Ok-clause-fits
+returns-in-Ok-clause-fits c =
     let fits = subst (λ (f : Found). FoundFits (points_of c.args.self.now) (Some f)) c.in-Sample.is c.requires in
-    c.in-Ok-sample.ensures.fits (points_of c.args.self.now) fits.0 c.vars.ensures fits.1
+    c.in-Ok.ensures.fits (points_of c.args.self.now) fits.0 c.vars.ensures fits.1

@@ -1,14 +1,14 @@
-use Rattle.std.proofs.Common.{◌∙◌, length, ap, sym, arith}
-use Rattle.dk_graph.proofs.Depths.{depth-is, parents-deeper}
-use Rattle.dk_graph.proofs.Places.{get_or-any}
+use Rattle.std.proofs.Common.{subst, sym}
+use Rattle.dk_graph.specs.Graphs.{AreRanks}
+use Rattle.dk_graph.proofs.Ranked.{are-ranks, deeper, no-cycle}
 use Rattle.dk_graph.proofs.graph.Graph.depth.Goals as goal
 
-pub returns-clause-depth : goal.returns-clause-depth
-returns-clause-depth c =
+pub depth_by_paths-requires-clause-ranks : goal.depth_by_paths-requires-clause-ranks
+depth_by_paths-requires-clause-ranks c =
     let i = c.self.inside in
-    rw (← c.self.view_is) (c.index.ensures
-    ∙ get_or-any i.depths.items c.args.p.0 c.index.result.now 0 (omega (arith, c.requires, c.self.invariant.all, ap length c.self.view_is))
-    ∙ sym (depth-is i.edges i.depths.items c.self.invariant c.args.p.0 (omega (arith, c.requires, ap length c.self.view_is))))
+    subst (AreRanks i.edges) (sym c.as_slice.ensures.value) (are-ranks i.edges i.ranks.items c.self.invariant)
 
 pub returns-clause-parents : goal.returns-clause-parents
-returns-clause-parents c = rw (← c.self.view_is) (parents-deeper c.self.inside.edges c.self.inside.depths.items c.self.invariant)
+returns-clause-parents c =
+    let i = c.self.inside in
+    rw (← c.self.view_is) (deeper i.edges (no-cycle i.edges i.ranks.items (are-ranks i.edges i.ranks.items c.self.invariant)))

@@ -1,5 +1,5 @@
-use Rattle.dk_graph.proofs.Bounds.{depths-nothing}
+use Rattle.dk_graph.proofs.Bounds.{ranks-nothing}
 use Rattle.dk_graph.proofs.graph.Graph.new.Goals as goal
 
 pub invariant_of-result : goal.invariant_of-result
-invariant_of-result c = rw (c.new.ensures, c.new-2.ensures.items) depths-nothing
+invariant_of-result c = rw (c.new.ensures, c.new-2.ensures.items) ranks-nothing

@@ -10,16 +10,16 @@ use Rattle.dk_join.specs.Joining.{answer_of}
 use Rattle.dk_join.specs.declared.beside.Companion.{Companion}
 use Rattle.dk_join.proofs.sweeps.Sweep.behind.Goals as goal
 
-pub thirds-requires-clause-w : goal.thirds-requires-clause-w
-thirds-requires-clause-w c =
+pub thirds_beside-requires-clause-w : goal.thirds_beside-requires-clause-w
+thirds_beside-requires-clause-w c =
     let Are : List Companion → Type 0 = All (IsCompanion c.args.self.now.both.now c.args.row c.args.v) in
     let all : Are c.deref-w-items.result.now = subst Are (sym c.deref-w-items.ensures.value) c.in_ok-beside.ensures.each in
     all c.loop-w.w-index (record { leader = record { 0 = 0 }; numbers = record { first = None; second = None }; by_first = false; by_second = false }) c.loop-w-test.true
 
-pub thirds-requires-clause-third : goal.thirds-requires-clause-third
-thirds-requires-clause-third c =
+pub thirds_beside-requires-clause-beside : goal.thirds_beside-requires-clause-beside
+thirds_beside-requires-clause-beside c =
     let Are : List Companion → Type 0 = All (IsCompanion c.args.self.now.both.now c.args.row c.args.v) in
-    subst Are (sym c.as_slice.ensures.value) c.in_ok-beside.ensures.each
+    subst Are (sym c.as_slice-in-loop-w.ensures.value) c.in_ok-beside.ensures.each
 
 pub loop-w-preserved : goal.loop-w-preserved
 loop-w-preserved c =
@@ -32,7 +32,7 @@ loop-w-preserved c =
     let test = c.loop-w-test.true in
     let Of : VarId → List VarId → List Slot = thirds pair.first.infos s.known.now (answer_of pair) c.args.row c.args.v in
     c.in_ok-slots.ensures
-    ∙ (ap (λ ls. c.loop-w.slots ++ Of w.leader ls) (ap (map (λ (x : Companion). x.leader)) c.as_slice.ensures.value ∙ c.in_ok-beside.ensures.leaders)
+    ∙ (ap (λ ls. c.loop-w.slots ++ Of w.leader ls) (ap (map (λ (x : Companion). x.leader)) c.as_slice-in-loop-w.ensures.value ∙ c.in_ok-beside.ensures.leaders)
     ∙ (ap (λ ss. ss ++ Of w.leader c.args.leaders.now) c.loop-w.invariant
     ∙ mapped_more (λ z. Of z c.args.leaders.now) (λ (x : Companion). x.leader) c.args.slots items i none (omega (arith, test))))
 
