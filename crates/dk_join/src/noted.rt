@@ -1,9 +1,9 @@
 // An engine with notes of which leaders have equal numbers, by which the rules of rows over three leaders are told fast.
-ghost use Rattle.std.specs.Prelude.{◌≡◌, ◌∷◌, [], Bool, IfOk, IfSome, List, Some, length, map, slice_get};
+ghost use Rattle.std.specs.Prelude.{◌≡◌, IfOk, IfSome, Some, map, slice_get, slice_index_or};
 ghost use Rattle.dk_base.specs.declared.kinds.VarId.{VarId};
 ghost use Rattle.dk_engine.specs.Reading.{agree_read, count_read, state_read};
 ghost use Rattle.dk_join.specs.Noted.{equal_lines, equal_numbers};
-ghost use Rattle.dk_template.specs.Premises.{IsUsable, premise_fits};
+ghost use Rattle.dk_template.specs.Premises.{IsUsable, at_role, premise_fits};
 
 use dk_base::{Kind, NoMemory, VarId};
 use dk_engine::{Engine, suited_vars};
@@ -30,7 +30,10 @@ fn are_equal(engine: &Engine, v: VarId, w: VarId) -> bool
         row: RowId(11),
         roles: [0, 1, 0],
     };
-    admits(RowId(11), engine.vars(), &[v, w]) && engine.premise(&premise, &[v, w])
+    if !admits(RowId(11), engine.vars(), &[v, w]) {
+        return false;
+    }
+    engine.premise(&premise, &[v, w])
 }
 
 // The same of each of the leaders beside one.
@@ -153,19 +156,30 @@ impl<'a> Noted<'a> {
         }
     }
 
+    // Whether two numbers at roles are equal, if it is noted.
+    fn told_equal(&self, roles: [u8; 3], vars: &[VarId]) -> Option<bool>
+        ensures { IfSome result (λ b. b ≡ equal_numbers self.now.engine.now (at_role (slice_index_or roles 0 0) vars.now) (at_role (slice_index_or roles 1 0) vars.now)) }
+    {
+        match vars.get(roles[0] as usize) {
+            Some(v) => match vars.get(roles[1] as usize) {
+                Some(w) => self.are_equal(*v, *w),
+                None => None,
+            },
+            None => None,
+        }
+    }
+
     // Whether the premise fits, if it is noted.
     fn told(&self, premise: &Premise, vars: &[VarId]) -> Option<bool>
         requires { IsUsable self.now.engine.now.grammar self.now.engine.now.infos premise.now vars.now }
         ensures { IfSome result (λ b. b ≡ premise_fits (state_read self.now.engine.now.kept) premise.now vars.now) }
     {
         match *premise {
-            Premise::Holds { row: RowId(11), roles } => {
-                match vars.get(roles[0] as usize) {
-                    Some(v) => match vars.get(roles[1] as usize) {
-                        Some(w) => self.are_equal(*v, *w),
-                        None => None,
-                    },
-                    None => None,
+            Premise::Holds { row, roles } => {
+                if row.0 == 11 {
+                    self.told_equal(roles, vars)
+                } else {
+                    None
                 }
             }
             _ => None,

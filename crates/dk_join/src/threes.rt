@@ -1,5 +1,5 @@
 // States of rows over three leaders in one engine, told from the leaders' numbers, or from a slot near the one that was found last.
-ghost use Rattle.std.specs.Prelude.{◌≡◌, ◌<◌, ◌∷◌, [], false, true, IfOk, IfSome, IsTrue, None, OnErr, Some, length};
+ghost use Rattle.std.specs.Prelude.{◌≡◌, ◌<◌, ◌≤◌, ◌∷◌, [], ℕ, false, suc, true, All, IfOk, IfSome, IsTrue, None, OnErr, Some, length, slice_index_or};
 ghost use Rattle.std.specs.List.{AllPairs};
 ghost use Rattle.dk_base.specs.Values.{value_of};
 ghost use Rattle.dk_base.specs.declared.values.Value.{Value};
@@ -7,6 +7,7 @@ ghost use Rattle.dk_engine.specs.Exact.{SlotBefore};
 ghost use Rattle.dk_engine.specs.Ordering.{is_slot_before};
 ghost use Rattle.dk_engine.specs.Parts.{is_slot_of, leader_of, slot_at};
 ghost use Rattle.dk_engine.specs.Reading.{state_read};
+ghost use Rattle.dk_engine.specs.declared.slot.Slot.{Slot as DeclaredSlot};
 ghost use Rattle.dk_forms.specs.declared.states.State.TheVariants.{Broken};
 ghost use Rattle.dk_join.specs.Noted.{is_behind};
 ghost use Rattle.dk_join.specs.Numbers.{number_of};
@@ -60,7 +61,42 @@ fn comes_behind(slot: &Slot, row: RowId, v: VarId, w: VarId, x: VarId) -> bool
     }
 }
 
-// Whether no slot of the row over three leaders is there, as is seen by the slots about this place.
+// Whether the slot before this place, if there is one, is seen to come before that of the row over three leaders.
+fn last_comes_before(
+    slots: &[Slot],
+    place: usize,
+    row: RowId,
+    v: VarId,
+    w: VarId,
+    x: VarId,
+) -> bool
+    requires { place ≤ length slots.now }
+    ensures { IsTrue result → (k : ℕ) (d : DeclaredSlot) → suc k ≡ place → is_slot_before row (v ∷ w ∷ x ∷ []) (slice_index_or slots.now k d) ≡ true }
+{
+    if place == 0 {
+        return true;
+    }
+    comes_before(&slots[place - 1], row, v, w, x)
+}
+
+// Whether the slot at this place, if there is one, is seen to come behind it.
+fn next_comes_behind(
+    slots: &[Slot],
+    place: usize,
+    row: RowId,
+    v: VarId,
+    w: VarId,
+    x: VarId,
+) -> bool
+    ensures { IsTrue result → (d : DeclaredSlot) → place < length slots.now → is_behind row (v ∷ w ∷ x ∷ []) (slice_index_or slots.now place d) ≡ true }
+{
+    if place >= slots.len() {
+        return true;
+    }
+    comes_behind(&slots[place], row, v, w, x)
+}
+
+// Whether no slot of the row over three leaders is there, as is seen by those about this place.
 fn is_gap(slots: &[Slot], place: usize, row: RowId, v: VarId, w: VarId, x: VarId) -> bool
     requires { AllPairs SlotBefore slots.now }
     ensures { IsTrue result → slot_at slots.now row (v ∷ w ∷ x ∷ []) ≡ None }
@@ -68,10 +104,10 @@ fn is_gap(slots: &[Slot], place: usize, row: RowId, v: VarId, w: VarId, x: VarId
     if place > slots.len() {
         return false;
     }
-    if place > 0 && !comes_before(&slots[place - 1], row, v, w, x) {
+    if !last_comes_before(slots, place, row, v, w, x) {
         return false;
     }
-    place == slots.len() || comes_behind(&slots[place], row, v, w, x)
+    next_comes_behind(slots, place, row, v, w, x)
 }
 
 // Whether the place is where the slot would stand, as its two neighbours say.
@@ -173,7 +209,21 @@ fn leads(engine: &Engine, v: VarId) -> bool
     engine.classes().leader(v).0 == v.0
 }
 
-// Whether the row is seen to be Broken over three leaders that aren't all constant: it has no slot there, and no rule of it follows.
+// Whether each of the variables does.
+fn all_lead(engine: &Engine, vars: &[VarId]) -> bool
+    requires { All (λ (v : VarId). v.0 < length engine.now.kept.leaders) vars.now }
+    ensures { IsTrue result → All (λ v. leader_of engine.now.kept.leaders v ≡ v) vars.now }
+{
+    for v in vars {
+        if !leads(engine, *v) {
+            return false;
+        }
+    }
+    true
+}
+
+// Whether the row is seen to be Broken over three leaders that aren't all constant: it has no slot there, as the place says, and no rule of
+// it follows.
 fn is_broken(
     noted: &Noted<'_>,
     place: usize,
@@ -183,20 +233,22 @@ fn is_broken(
     x: VarId,
 ) -> bool
     requires row { IsRowOf noted.now.engine.now.grammar row }
-    requires three { arity_of row ≡ 3 }
     requires some { 0 < noted.now.engine.now.kept.samples }
     requires vars { IsTrue (admits row noted.now.engine.now.infos (v ∷ w ∷ x ∷ [])) }
     ensures { IsTrue result → state_read noted.now.engine.now.kept row (v ∷ w ∷ x ∷ []) ≡ Broken }
 {
     let kept = noted.engine.kept();
     let vars = [v, w, x];
-    leads(noted.engine, v)
-        && leads(noted.engine, w)
-        && leads(noted.engine, x)
-        && !are_known(&kept.known, &vars)
-        && is_written(row, &vars)
-        && is_gap(kept.slots.as_slice(), place, row, v, w, x)
-        && !suppressed(row, &vars, noted)
+    if !all_lead(noted.engine, &vars) {
+        return false;
+    }
+    if are_known(&kept.known, &vars) || !is_written(row, &vars) {
+        return false;
+    }
+    if !is_gap(kept.slots.as_slice(), place, row, v, w, x) {
+        return false;
+    }
+    !suppressed(row, &vars, noted)
 }
 
 /// The state of a row over three variables in one engine. Its slot is looked for at this place first, which then is the one behind it.

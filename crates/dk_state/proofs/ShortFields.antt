@@ -54,6 +54,9 @@ short_read text rest left z n small is end first whole =
     let number : ◌≡◌ {A = Option ℤ} (Some n) (Some z) = sym there.0 ∙ told in
     (cc number, same.1)
 
+pub short_left : (text left : List ℕ) (n : ℤ) → short_number text ≡ Some (n, left) → length left ≤ length text
+short_left text left n is = let stands = short_stands text left n is in omega (arith, ap length stands.whole, length-append stands.text left)
+
 -- ---- as it is written
 digits_are : (ds : List ℕ) → list_all (λ d. is_digit d 10) ds ≡ true → AllDigits 10 ds
 digits_are [] h = tt

@@ -59,7 +59,7 @@ impl<'a> Rest<'a> {
     }
 
     // What is left behind a number as a field; none where it isn't seen at once.
-    fn behind_number(&self, number: i128) -> Option<&'a [u8]>
+    fn seen_behind(&self, number: i128) -> Option<&'a [u8]>
         ensures { IfSome result (λ rest. left_behind (behind_blank (signed_decimal number)) self.now ≡ Some rest.now) }
     {
         match self.left {
@@ -82,7 +82,7 @@ impl<'a> Rest<'a> {
     fn pass_number(&mut self, alloc: Global, number: i128) -> Result<(), NoMemory>
         ensures { OnOk result (self.new ≡ left_behind (behind_blank (signed_decimal number)) self.old) }
     {
-        match self.behind_number(number) {
+        match self.seen_behind(number) {
             Some(bytes) => {
                 self.left = Some(bytes);
                 Ok(())
