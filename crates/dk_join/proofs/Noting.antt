@@ -1,12 +1,13 @@
 -- What is noted of leaders with equal numbers.
 use Rattle.std.specs.Prelude.{◌≡◌, ◌<◌, ◌≤◌, ◌&&◌, ℕ, Bool, true, All, List, [], ◌∷◌, Option, Some, None, length, map, option_map, refl, slice_get}
-use Rattle.std.proofs.Common.{◌∙◌, ap, arith, sym}
+use Rattle.std.proofs.Common.{◌∙◌, ap, arith, get_or, sym}
 use Rattle.std.proofs.lemmas.List.Elements.{All-cons, All-nil}
 use Rattle.std.proofs.lemmas.Option.{slice_get-map}
 use Rattle.dk_base.specs.declared.kinds.VarId.{VarId}
 use Rattle.dk_base.specs.declared.kinds.VarInfo.{VarInfo}
 use Rattle.dk_engine.specs.Levels.{Whole}
 use Rattle.dk_engine.specs.Reading.{state_read}
+use Rattle.dk_template.proofs.WrittenTuples.{admitted_arity}
 use Rattle.dk_template.specs.Admitted.{admits}
 use Rattle.dk_template.specs.Fitting.{fits}
 use Rattle.dk_template.specs.Premises.{IsUsable, at_role, premise_fits}
@@ -30,13 +31,15 @@ equal_usable g infos v w admitted = record {
   admitted = admitted;
 }
 
-pub equal_asked : (e : Whole) (a b c : ℕ) (vars : List VarId) → IsUsable e.grammar e.infos (Holds equal_row (a ∷ b ∷ c ∷ [])) vars
-    → premise_fits (state_read e.kept) (Holds equal_row (a ∷ b ∷ c ∷ [])) vars ≡ equal_numbers e (at_role a vars) (at_role b vars)
+pub equal_asked : (e : Whole) (roles : List ℕ) (vars : List VarId) → IsUsable e.grammar e.infos (Holds equal_row roles) vars
+    → premise_fits (state_read e.kept) (Holds equal_row roles) vars ≡ equal_numbers e (at_role (get_or roles 0 0) vars) (at_role (get_or roles 1 0) vars)
 unfolding rows
-equal_asked e a b c vars usable = ap (λ k. k && fits (state_read e.kept equal_row (at_role a vars ∷ at_role b vars ∷ []))) (sym usable.admitted)
+equal_asked e [] vars usable = let long = admitted_arity equal_row e.infos [] usable.admitted in absurd (omega (arith, long))
+equal_asked e (a ∷ []) vars usable = let long = admitted_arity equal_row e.infos (at_role a vars ∷ []) usable.admitted in absurd (omega (arith, long))
+equal_asked e (a ∷ b ∷ rest) vars usable = ap (λ k. k && fits (state_read e.kept equal_row (at_role a vars ∷ at_role b vars ∷ []))) (sym usable.admitted)
 
 -- ---- looking up
-mapped : {X Y : Type 0} (f : X → Y) (xs : List X) (k : ℕ) (x : X) → slice_get xs k ≡ Some x → slice_get (map f xs) k ≡ Some (f x)
+pub mapped : {X Y : Type 0} (f : X → Y) (xs : List X) (k : ℕ) (x : X) → slice_get xs k ≡ Some x → slice_get (map f xs) k ≡ Some (f x)
 mapped f xs k x is = slice_get-map f xs k ∙ ap (option_map f) is
 
 pub noted_at : (e : Whole) (leaders : List VarId) (lines : List (List Bool)) → lines ≡ equal_lines e leaders leaders → (i j : ℕ) (v w : VarId) (line : List Bool) (b : Bool)

@@ -1,9 +1,10 @@
 -- A row of three leaders is Broken where it has no slot and none of its rules follows.
-use Rattle.std.specs.Prelude.{◌≡◌, ◌<◌, ◌≤◌, ◌-◌, ◌==◌, ◌||◌, ◌&&◌, ℕ, zero, suc, All, false, true, List, [], ◌∷◌, None, if◌then◌else◌, length, nat_lt, refl}
+use Rattle.std.specs.Prelude.{◌≡◌, ◌<◌, ◌≤◌, ◌+◌, ◌-◌, ◌==◌, ◌||◌, ◌&&◌, ℕ, zero, suc, All, false, true, List, [], ◌∷◌, None, if◌then◌else◌, length, nat_lt, refl, take}
 use Rattle.std.specs.List.{AllPairs}
-use Rattle.std.proofs.Common.{◌∙◌, ap, arith, get_or, inl, inr, sym}
-use Rattle.std.proofs.lemmas.Bool.{and_parts, cases_Bool, cases_lt, eqb-true, false_from_ne_true, ltb-true, true≢false}
-use Rattle.std.proofs.lemmas.List.Elements.{All-head, All-tail}
+use Rattle.std.proofs.Common.{◌∙◌, ap, arith, get_or, inl, inr, subst, sym}
+use Rattle.std.proofs.lemmas.Bool.{and_parts, cases_Bool, cases_lt, eqb-true, false_from_ne_true, ltb-true}
+use Rattle.std.proofs.lemmas.List.{take_more}
+use Rattle.std.proofs.lemmas.List.Elements.{All-append, All-cons, All-head, All-nil, All-tail}
 use Rattle.dk_base.specs.declared.kinds.VarId.{VarId}
 use Rattle.dk_base.specs.declared.kinds.VarInfo.{VarInfo}
 use Rattle.dk_engine.proofs.LevelFacts.{level_is, read_some}
@@ -88,6 +89,12 @@ module _ (row : RowId) (vars : List VarId) where
             (let same : suc n ≡ k = omega (arith, l, ge) in
             false_from_ne_true (is_slot_before row vars (get_or slots k d)) (λ h. never_both (get_or slots k d) (ap (λ i. is_behind row vars (get_or slots i d)) (sym same) ∙ behind d (omega (arith, same, m))) h))
       ]
+
+-- ---- leaders
+-- one more
+pub all_more : (P : VarId → Type 0) (vars : List VarId) (i : ℕ) (d : VarId) → i < length vars → All P (take i vars) → P (get_or vars i d) → All P (take (i + 1) vars)
+all_more P vars i d l all one =
+    subst (All P) (sym (take_more vars i d l)) (All-append P (take i vars) (get_or vars i d ∷ []) all (All-cons P (get_or vars i d) [] one (All-nil P)))
 
 -- ---- no rule
 module _ (g : Grammar) (infos : List VarInfo) (kept : Kept) where

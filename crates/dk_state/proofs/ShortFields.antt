@@ -4,16 +4,17 @@ use Rattle.std.specs.Char.{digit_value, is_digit}
 use Rattle.std.specs.Fmt.{decimal, signed_decimal}
 use Rattle.std.specs.List.{list_all}
 use Rattle.std.specs.Str.Parse.{AllDigits, digits_value}
-use Rattle.std.proofs.Common.{◌∙◌, ap, arith, get_or, sym}
-use Rattle.std.proofs.lemmas.Bool.{and_parts, eqb-true, ltb-true, ne_eqb}
+use Rattle.std.proofs.Common.{◌∙◌, ap, arith, get_or, inl, inr, sym}
+use Rattle.std.proofs.lemmas.Bool.{and_parts, cases_Bool, eqb-true, ltb-true, ne_eqb}
 use Rattle.std.proofs.lemmas.Fmt.{decimal-digits_value, decimal_digit}
 use Rattle.std.proofs.lemmas.List.{drop_at, length-append, take_at}
 use Rattle.std.proofs.lemmas.Str.Parse.{numerals_by_value, tells_digits}
 use Rattle.dk_base.proofs.Digits.{short_stands}
 use Rattle.dk_base.specs.Items.{item_in_range}
 use Rattle.dk_base.specs.Numbers.{fits_i64, is_numeral, numeral_of, short_number, signed, whole_of}
-use Rattle.dk_base.specs.declared.items.Item.{Item}
-use Rattle.dk_base.specs.declared.items.Item.TheVariants.{Missing, Present}
+use Rattle.dk_base.specs.Values.{valued}
+use Rattle.dk_base.specs.declared.values.Value.{Value}
+use Rattle.dk_base.specs.declared.values.Value.TheVariants as value
 use Rattle.dk_state.specs.Lines.{behind_blank}
 use Rattle.dk_state.specs.Matching.{behind}
 use Rattle.dk_state.specs.Reading.{BeginsWith, HasNone, ends_field}
@@ -35,14 +36,26 @@ none_low (b ∷ t) low =
     let lf : (b == 10) ≡ false = ne_eqb b 10 (λ e. absurd (omega (arith, at, e))) in
     rw (blank, lf) (none_low t (λ k l. low (suc k) (omega (arith, l))))
 
--- what is in a range is there, and within
-present : (o : Option ℤ) (z : ℤ) → item_in_range fits_i64 o ≡ Present z → (o ≡ Some z) × (fits_i64 z ≡ true)
+-- what is told of a number: it is one of 64 bits, or it is missing
+abbrev told_int : Option ℤ → Option Value
+told_int o = valued (λ z. value.Int z) (item_in_range fits_i64 o)
+
+near_told : (y : ℤ) → fits_i64 y ≡ true → told_int (Some y) ≡ Some (value.Int y)
+near_told y e = rw e refl
+
+far_told : (y : ℤ) → fits_i64 y ≡ false → told_int (Some y) ≡ Some value.Missing
+far_told y e = rw e refl
+
+-- what is told is there, and fits
+present : (o : Option ℤ) (z : ℤ) → told_int o ≡ Some (value.Int z) → (o ≡ Some z) × (fits_i64 z ≡ true)
 present None z h = absurd (cc h)
-present (Some y) z h = go (fits_i64 y) refl h
-  where
-    go : (b : Bool) → fits_i64 y ≡ b → ◌≡◌ {A = Item ℤ} (if b then Present y else Missing) (Present z) → (◌≡◌ {A = Option ℤ} (Some y) (Some z)) × (fits_i64 z ≡ true)
-    go false e h = absurd (cc h)
-    go true e h = let same : y ≡ z = cc h in (ap (λ (x : ℤ). Some x) same, ap fits_i64 (sym same) ∙ e)
+present (Some y) z h = elim (cases_Bool (fits_i64 y)) as (λ _. (◌≡◌ {A = Option ℤ} (Some y) (Some z)) × (fits_i64 z ≡ true)) [
+  | inl e ↦
+      (let both : ◌≡◌ {A = Option Value} (Some (value.Int y)) (Some (value.Int z)) = sym (near_told y e) ∙ h in
+      let same : y ≡ z = cc both in
+      (ap (λ (x : ℤ). Some x) same, ap fits_i64 (sym same) ∙ e))
+  | inr n ↦ absurd (let gone : ◌≡◌ {A = Option Value} (Some value.Missing) (Some (value.Int z)) = sym (far_told y n) ∙ h in cc gone)
+]
 
 pub short_read : (text rest left : List ℕ) (z n : ℤ) → unsigned_abs z < 2 ^ 127 → short_number text ≡ Some (n, left) → BeginsWith ends_field left → BeginsWith ends_field rest
     → text ≡ signed_decimal z ++ rest → (n ≡ z) × (left ≡ rest)
@@ -50,7 +63,7 @@ short_read text rest left z n small is end first whole =
     let stands = short_stands text left n is in
     let same = same_field stands.text (signed_decimal z) left rest (none_low stands.text stands.low) (number_plain z small) end first (sym stands.whole ∙ whole) in
     let told : whole_of stands.text ≡ Some z = ap whole_of same.0 ∙ whole_back z small in
-    let there = present (whole_of stands.text) n stands.reads in
+    let there = present (whole_of stands.text) n (ap (valued (λ z. value.Int z)) stands.reads) in
     let number : ◌≡◌ {A = Option ℤ} (Some n) (Some z) = sym there.0 ∙ told in
     (cc number, same.1)
 
@@ -121,7 +134,7 @@ pub short_passed : (text rest : List ℕ) (n : ℤ) → short_number text ≡ So
     → behind (behind_blank (signed_decimal n)) (32 ∷ text) ≡ Some rest
 short_passed text rest n is zero minus =
     let stands = short_stands text rest n is in
-    let there = present (whole_of stands.text) n stands.reads in
+    let there = present (whole_of stands.text) n (ap (valued (λ z. value.Int z)) stands.reads) in
     let plain = plain_text stands.text rest stands.some (λ e. ap length (sym stands.whole) ∙ zero (ap (λ (l : List ℕ). get_or l 0 0) stands.whole ∙ e))
     (λ e f. minus (ap (λ (l : List ℕ). get_or l 0 0) stands.whole ∙ e) (ap (λ (l : List ℕ). get_or l 1 0) stands.whole ∙ f)) in
     let own : stands.text ≡ signed_decimal n = number_written stands.text n there.0 there.1 plain.0 plain.1 in

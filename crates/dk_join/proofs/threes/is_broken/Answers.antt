@@ -1,5 +1,5 @@
-use Rattle.std.specs.Prelude.{◌≡◌, ◌∷◌, [], All, None, false, true, length}
-use Rattle.std.proofs.Common.{◌∙◌, ap, arith, subst, sym}
+use Rattle.std.specs.Prelude.{◌≡◌, ◌<◌, ◌∷◌, [], None, false, length}
+use Rattle.std.proofs.Common.{◌∙◌, ap, arith, sym}
 use Rattle.std.proofs.lemmas.Bool.{not-true}
 use Rattle.std.proofs.lemmas.List.Elements.{All-weaker}
 use Rattle.dk_base.specs.declared.kinds.VarId.{VarId}
@@ -11,14 +11,14 @@ use Rattle.dk_join.proofs.threes.is_broken.Goals as goal
 
 pub all_lead-requires : goal.all_lead-requires
 all_lead-requires c =
-    let e = c.args.noted.engine.now in
+    let e = c.args.noted.now.engine.now in
     let vars = c.args.v ∷ c.args.w ∷ c.args.x ∷ [] in
     let long = c.kept-kept.ensures.fed.readable.leaders.long in
     All-weaker (λ (u : VarId). u.0 < length e.infos) (λ (u : VarId). u.0 < length e.kept.leaders) (λ u l. omega (arith, l, long)) vars (admitted_there e.infos c.args.row vars c.requires.vars)
 
 pub returns : goal.returns
 returns c = λ free.
-    let e = c.args.noted.engine.now in
+    let e = c.args.noted.now.engine.now in
     let kept = e.kept in
     let row = c.args.row in
     let vars = c.args.v ∷ c.args.w ∷ c.args.x ∷ [] in

@@ -1,5 +1,5 @@
 use Rattle.std.specs.Prelude.{◌≡◌}
-use Rattle.std.proofs.Common.{◌∙◌, ap, sym}
+use Rattle.std.proofs.Common.{◌∙◌, ap, rules, sym}
 use Rattle.dk_classes.specs.Leaders.{leader_at, var}
 use Rattle.dk_join.proofs.threes.leads.Goals as goal
 
