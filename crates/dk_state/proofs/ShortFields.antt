@@ -122,9 +122,9 @@ number_written (b ∷ bs) n is fits lead minus = go (b == 45) refl is
 -- what is so of bytes that begin with a text is so of the text
 plain_text : (t rest : List ℕ) → 0 < length t → (get_or (t ++ rest) 0 0 ≡ 48 → length (t ++ rest) ≡ length rest + 1) → (get_or (t ++ rest) 0 0 ≡ 45 → get_or (t ++ rest) 1 0 ≢ 48)
     → (get_or t 0 0 ≡ 48 → length t ≡ 1) × (get_or t 0 0 ≡ 45 → get_or t 1 0 ≢ 48)
-plain_text [] rest some zero minus = absurd (omega (arith, some))
-plain_text (b ∷ []) rest some zero minus = (λ e. refl, λ e f. omega (arith, f))
-plain_text (b ∷ c ∷ bs) rest some zero minus = (λ e. let long = zero e in let both = length-append bs rest in absurd (omega (arith, long, both)), minus)
+plain_text [] rest some alone minus = absurd (omega (arith, some))
+plain_text (b ∷ []) rest some alone minus = (λ e. refl, λ e f. omega (arith, f))
+plain_text (b ∷ c ∷ bs) rest some alone minus = (λ e. let long = alone e in let both = length-append bs rest in absurd (omega (arith, long, both)), minus)
 
 behind_own : (t rest : List ℕ) → behind t (t ++ rest) ≡ Some rest
 behind_own [] rest = refl
@@ -132,10 +132,10 @@ behind_own (b ∷ t) rest = rw (eqb-self b) (behind_own t rest)
 
 pub short_passed : (text rest : List ℕ) (n : ℤ) → short_number text ≡ Some (n, rest) → (get_or text 0 0 ≡ 48 → length text ≡ length rest + 1) → (get_or text 0 0 ≡ 45 → get_or text 1 0 ≢ 48)
     → behind (behind_blank (signed_decimal n)) (32 ∷ text) ≡ Some rest
-short_passed text rest n is zero minus =
+short_passed text rest n is alone minus =
     let stands = short_stands text rest n is in
     let there = present (whole_of stands.text) n (ap (valued (λ z. value.Int z)) stands.reads) in
-    let plain = plain_text stands.text rest stands.some (λ e. ap length (sym stands.whole) ∙ zero (ap (λ (l : List ℕ). get_or l 0 0) stands.whole ∙ e))
+    let plain = plain_text stands.text rest stands.some (λ e. ap length (sym stands.whole) ∙ alone (ap (λ (l : List ℕ). get_or l 0 0) stands.whole ∙ e))
     (λ e f. minus (ap (λ (l : List ℕ). get_or l 0 0) stands.whole ∙ e) (ap (λ (l : List ℕ). get_or l 1 0) stands.whole ∙ f)) in
     let own : stands.text ≡ signed_decimal n = number_written stands.text n there.0 there.1 plain.0 plain.1 in
     ap (behind (signed_decimal n)) (stands.whole ∙ ap (λ (l : List ℕ). l ++ rest) own) ∙ behind_own (signed_decimal n) rest
