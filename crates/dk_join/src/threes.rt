@@ -62,14 +62,7 @@ fn comes_behind(slot: &Slot, row: RowId, v: VarId, w: VarId, x: VarId) -> bool
 }
 
 // Whether the slot before this place, if there is one, is seen to come before that of the row over three leaders.
-fn last_comes_before(
-    slots: &[Slot],
-    place: usize,
-    row: RowId,
-    v: VarId,
-    w: VarId,
-    x: VarId,
-) -> bool
+fn last_comes_before(slots: &[Slot], place: usize, row: RowId, v: VarId, w: VarId, x: VarId) -> bool
     requires { place ≤ length slots.now }
     ensures { IsTrue result → (k : ℕ) (d : DeclaredSlot) → suc k ≡ place → is_slot_before row (v ∷ w ∷ x ∷ []) (slice_index_or slots.now k d) ≡ true }
 {
@@ -80,14 +73,7 @@ fn last_comes_before(
 }
 
 // Whether the slot at this place, if there is one, is seen to come behind it.
-fn next_comes_behind(
-    slots: &[Slot],
-    place: usize,
-    row: RowId,
-    v: VarId,
-    w: VarId,
-    x: VarId,
-) -> bool
+fn next_comes_behind(slots: &[Slot], place: usize, row: RowId, v: VarId, w: VarId, x: VarId) -> bool
     ensures { IsTrue result → (d : DeclaredSlot) → place < length slots.now → is_behind row (v ∷ w ∷ x ∷ []) (slice_index_or slots.now place d) ≡ true }
 {
     if place >= slots.len() {
@@ -224,14 +210,7 @@ fn all_lead(engine: &Engine, vars: &[VarId]) -> bool
 
 // Whether the row is seen to be Broken over three leaders that aren't all constant: it has no slot there, as the place says, and no rule of
 // it follows.
-fn is_broken(
-    noted: &Noted<'_>,
-    place: usize,
-    row: RowId,
-    v: VarId,
-    w: VarId,
-    x: VarId,
-) -> bool
+fn is_broken(noted: &Noted<'_>, place: usize, row: RowId, v: VarId, w: VarId, x: VarId) -> bool
     requires row { IsRowOf noted.now.engine.now.grammar row }
     requires some { 0 < noted.now.engine.now.kept.samples }
     requires vars { IsTrue (admits row noted.now.engine.now.infos (v ∷ w ∷ x ∷ [])) }

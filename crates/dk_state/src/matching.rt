@@ -170,11 +170,7 @@ fn pass_numbers(alloc: Global, rest: &mut Rest<'_>, numbers: &[i128]) -> Result<
 }
 
 // Passes the fields of a state, by its text.
-fn pass_spelled_state(
-    alloc: Global,
-    rest: &mut Rest<'_>,
-    state: &State,
-) -> Result<(), NoMemory>
+fn pass_spelled_state(alloc: Global, rest: &mut Rest<'_>, state: &State) -> Result<(), NoMemory>
     ensures { OnOk result (rest.new ≡ left_behind (fields_text (state_fields state.now)) rest.old) }
 {
     let mut text = Text::new(alloc);

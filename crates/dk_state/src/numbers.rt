@@ -24,7 +24,13 @@ pub(crate) fn short_field(bytes: &[u8]) -> Option<(i64, &[u8])>
 {
     match bytes {
         [b' ', text @ ..] => match short_number(text) {
-            Some((number, rest)) => { if is_field_end(rest) { Some((number, rest)) } else { None } }
+            Some((number, rest)) => {
+                if is_field_end(rest) {
+                    Some((number, rest))
+                } else {
+                    None
+                }
+            }
             None => None,
         },
         _ => None,
@@ -49,7 +55,13 @@ pub(crate) fn behind_number(bytes: &[u8], number: i128) -> Option<&[u8]>
 {
     match bytes {
         [b' ', text @ ..] => match short_number(text) {
-            Some((found, rest)) => { if i128::from(found) == number && is_plain(text, rest.len()) { Some(rest) } else { None } }
+            Some((found, rest)) => {
+                if i128::from(found) == number && is_plain(text, rest.len()) {
+                    Some(rest)
+                } else {
+                    None
+                }
+            }
             None => None,
         },
         _ => None,
