@@ -5,6 +5,8 @@ pub mod Apart
 pub mod Breaking
 pub mod Companions
 pub mod Near
+pub mod Unruled
+pub mod Noting
 pub mod Answering
 pub mod Leading
 pub mod Knowing

@@ -24,7 +24,7 @@ use Rattle.dk_template.specs.declared.templates.Symmetry.{Symmetry}
 use Rattle.dk_template.specs.declared.templates.Symmetry.TheVariants as symmetry
 
 -- ---- its place
-not_itself : (vs : List VarId) → Precedes vs vs → ⊥
+pub not_itself : (vs : List VarId) → Precedes vs vs → ⊥
 not_itself [] h = h
 not_itself (v ∷ vs) h = elim h as (λ _. ⊥) [ inl l ↦ omega (arith, l) | inr r ↦ not_itself vs r.1 ]
 
@@ -71,7 +71,7 @@ module _ (a b c : VarId) where
   first_back e s = ap (λ d. if d then exchanged_state First s else s) e
 
   -- they stay as they are, and so does a state
-  arranged : (y : Symmetry) → ascend (exchangeable y three) ≡ true → arrange_tuple y three ≡ three
+  pub arranged : (y : Symmetry) → ascend (exchangeable y three) ≡ true → arrange_tuple y three ≡ three
   arranged symmetry.Fixed h = refl
   arranged symmetry.All h =
       let parts = and_parts (nat_le a.0 b.0) (nat_le b.0 c.0 && true) h in
@@ -80,7 +80,7 @@ module _ (a b c : VarId) where
       ap (λ t. order_tuple Last (order_tuple First t)) last ∙ (ap (order_tuple Last) first ∙ last)
   arranged symmetry.Arguments h = last_ordered (not_above b.0 c.0 (and_parts (nat_le b.0 c.0) true h).0)
 
-  disarranged : (y : Symmetry) → ascend (exchangeable y three) ≡ true → (s : State) → disarrange_state y three s ≡ s
+  pub disarranged : (y : Symmetry) → ascend (exchangeable y three) ≡ true → (s : State) → disarrange_state y three s ≡ s
   disarranged symmetry.Fixed h s = refl
   disarranged symmetry.All h s =
       let parts = and_parts (nat_le a.0 b.0) (nat_le b.0 c.0 && true) h in

@@ -8,3 +8,4 @@ pub mod Watched
 pub mod Suited
 pub mod Numbers
 pub mod Beside
+pub mod Noted

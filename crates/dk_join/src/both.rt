@@ -10,6 +10,7 @@ ghost use Rattle.dk_template.specs.Premises.{MayWantMemory};
 ghost use Rattle.dk_template.specs.Proper.{IsProper};
 ghost use Rattle.dk_template.specs.Templates.{IsRowOf, arity_of, form_of};
 
+use crate::noted::Noted;
 use crate::numbers::Numbered;
 use crate::threes::state_of_three;
 use dk_base::{NoMemory, VarId, VarInfo};
@@ -29,8 +30,8 @@ pub(crate) struct Places {
 #[derive(Drop)]
 pub(crate) struct Both<'a> {
     alloc: Global,
-    first: &'a Engine,
-    second: &'a Engine,
+    first: Noted<'a>,
+    second: Noted<'a>,
 }
 
 impl<'a> Model for Both<'a> {
@@ -38,43 +39,48 @@ impl<'a> Model for Both<'a> {
 
     ghost Value = { Pair };
 
-    ghost view = { λ b. record { first = b.first.now; second = b.second.now } };
+    ghost view = { λ b. record { first = b.first.engine.now; second = b.second.engine.now } };
 
-    ghost invariant = { λ b. AreAlike (record { first = b.first.now; second = b.second.now }) };
+    ghost invariant = { λ b. AreAlike (record { first = b.first.engine.now; second = b.second.engine.now }) };
 }
 
 impl<'a> Both<'a> {
-    /// The two engines.
-    pub(crate) fn of(alloc: Global, first: &'a Engine, second: &'a Engine) -> Both<'a>
+    /// The two engines, each with notes of some leaders.
+    pub(crate) fn of(
+        alloc: Global,
+        first: &'a Engine,
+        second: &'a Engine,
+        leaders: &[VarId],
+    ) -> Result<Both<'a>, NoMemory>
         requires { AreAlike (record { first = first.now; second = second.now }) }
-        ensures { result ≡ record { first = first.now; second = second.now } }
+        ensures { IfOk result (λ both. both ≡ record { first = first.now; second = second.now }) }
     {
-        Both {
+        Ok(Both {
             alloc,
-            first,
-            second,
-        }
+            first: Noted::of(alloc, first, leaders)?,
+            second: Noted::of(alloc, second, leaders)?,
+        })
     }
 
     /// The first of them.
     pub(crate) fn first(&self) -> &'a Engine
         ensures { result.now ≡ self.now.first }
     {
-        self.first
+        self.first.engine
     }
 
     /// The second of them.
     pub(crate) fn second(&self) -> &'a Engine
         ensures { result.now ≡ self.now.second }
     {
-        self.second
+        self.second.engine
     }
 
     /// The variables of both.
     pub(crate) fn infos(&self) -> &[VarInfo]
         ensures { result.now ≡ self.now.first.infos }
     {
-        self.first.vars()
+        self.first.engine.vars()
     }
 
     // The state that the second engine joins to one of the first.
@@ -86,7 +92,7 @@ impl<'a> Both<'a> {
         ensures proper { IfOk result (λ s. IsProper (form_of row) s) }
         ensures err { OnErr result (MayWantMemory row) }
     {
-        let other = self.second.answer(row, vars)?;
+        let other = self.second.engine.answer(row, vars)?;
         join_states(template_at(row).form, self.alloc, state, &other)
     }
 
@@ -114,7 +120,7 @@ impl<'a> Both<'a> {
         let place = &mut places.first;
         let state = state_of_three(
             self.alloc,
-            self.first,
+            &self.first,
             place,
             row,
             v.first(),
@@ -127,7 +133,7 @@ impl<'a> Both<'a> {
         let place = &mut places.second;
         let other = state_of_three(
             self.alloc,
-            self.second,
+            &self.second,
             place,
             row,
             v.second(),
@@ -145,7 +151,7 @@ impl<'a> Both<'a> {
         ensures proper { IfOk result (λ s. IsProper (form_of row) s) }
         ensures err { OnErr result (MayWantMemory row) }
     {
-        let state = self.first.answer(row, vars)?;
+        let state = self.first.engine.answer(row, vars)?;
         if matches!(state, State::Broken) {
             return Ok(State::Broken);
         }
@@ -170,11 +176,12 @@ impl<'a> Answers for Both<'a> {
 
     fn count(&self, vars: &[VarId]) -> u64 {
         self.first
+            .engine
             .count(vars)
-            .saturating_add(self.second.count(vars))
+            .saturating_add(self.second.engine.count(vars))
     }
 
     fn agree(&self, v: VarId, w: VarId) -> bool {
-        self.first.agree(v, w) && self.second.agree(v, w)
+        self.first.engine.agree(v, w) && self.second.engine.agree(v, w)
     }
 }

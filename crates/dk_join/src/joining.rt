@@ -91,7 +91,7 @@ fn joined_slots(
     requires leaders { AreLed (record { first = first.now; second = second.now }) leaders.now }
     ensures { IfOk result (λ slots. slots ≡ slots_of first.now.grammar first.now.infos leaders.now known.now (read_joined first.now.kept second.now.kept)) }
 {
-    let both = Both::of(alloc, first, second);
+    let both = Both::of(alloc, first, second, leaders)?;
     let sweep = Sweep {
         alloc,
         both: &both,

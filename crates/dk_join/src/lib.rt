@@ -7,6 +7,7 @@ mod constants;
 mod joining;
 pub mod laws;
 mod leaders;
+mod noted;
 mod numbers;
 mod patterns;
 mod sweeps;

@@ -1,11 +1,15 @@
 // States of rows over three leaders in one engine, told from the leaders' numbers, or from a slot near the one that was found last.
-ghost use Rattle.std.specs.Prelude.{◌≡◌, ◌<◌, ◌∷◌, [], false, true, IfOk, IfSome, IsTrue, OnErr, Some, length};
+ghost use Rattle.std.specs.Prelude.{◌≡◌, ◌<◌, ◌≤◌, ◌∷◌, [], ℕ, false, suc, true, All, IfOk, IfSome, IsTrue, None, OnErr, Some, length, slice_index_or};
 ghost use Rattle.std.specs.List.{AllPairs};
 ghost use Rattle.dk_base.specs.Values.{value_of};
 ghost use Rattle.dk_base.specs.declared.values.Value.{Value};
 ghost use Rattle.dk_engine.specs.Exact.{SlotBefore};
-ghost use Rattle.dk_engine.specs.Parts.{is_slot_of, slot_at};
+ghost use Rattle.dk_engine.specs.Ordering.{is_slot_before};
+ghost use Rattle.dk_engine.specs.Parts.{is_slot_of, leader_of, slot_at};
 ghost use Rattle.dk_engine.specs.Reading.{state_read};
+ghost use Rattle.dk_engine.specs.declared.slot.Slot.{Slot as DeclaredSlot};
+ghost use Rattle.dk_forms.specs.declared.states.State.TheVariants.{Broken};
+ghost use Rattle.dk_join.specs.Noted.{is_behind};
 ghost use Rattle.dk_join.specs.Numbers.{number_of};
 ghost use Rattle.dk_rows.specs.Meanings.{state_of};
 ghost use Rattle.dk_template.specs.Admitted.{admits};
@@ -14,9 +18,11 @@ ghost use Rattle.dk_template.specs.Proper.{IsProper};
 ghost use Rattle.dk_template.specs.Templates.{IsRow, IsRowOf, arity_of, form_of};
 
 use crate::constants::are_known;
+use crate::noted::Noted;
 use dk_base::{NoMemory, VarId, View};
 use dk_engine::{Engine, Slot};
 use dk_grammar::point;
+use dk_suppress::suppressed;
 use dk_template::{Answers, RowId, State, is_written};
 use std::alloc::Global;
 
@@ -29,8 +35,10 @@ pub(crate) struct Told {
 
 // ---- slots
 
-// Whether the slot comes before that of the row over three leaders. Nothing is promised: it only says where to look.
-fn comes_before(slot: &Slot, row: RowId, v: VarId, w: VarId, x: VarId) -> bool {
+// Whether the slot is seen to come before that of the row over three leaders.
+fn comes_before(slot: &Slot, row: RowId, v: VarId, w: VarId, x: VarId) -> bool
+    ensures { IsTrue result → is_slot_before row (v ∷ w ∷ x ∷ []) slot.now ≡ true }
+{
     if slot.row.0 != row.0 {
         return slot.row.0 < row.0;
     }
@@ -38,6 +46,54 @@ fn comes_before(slot: &Slot, row: RowId, v: VarId, w: VarId, x: VarId) -> bool {
         [a, b, c] => a.0 < v.0 || a.0 == v.0 && (b.0 < w.0 || b.0 == w.0 && c.0 < x.0),
         _ => false,
     }
+}
+
+// Whether it is seen to come behind it.
+fn comes_behind(slot: &Slot, row: RowId, v: VarId, w: VarId, x: VarId) -> bool
+    ensures { IsTrue result → is_behind row (v ∷ w ∷ x ∷ []) slot.now ≡ true }
+{
+    if slot.row.0 != row.0 {
+        return row.0 < slot.row.0;
+    }
+    match slot.leaders.as_slice() {
+        [a, b, c] => v.0 < a.0 || v.0 == a.0 && (w.0 < b.0 || w.0 == b.0 && x.0 < c.0),
+        _ => false,
+    }
+}
+
+// Whether the slot before this place, if there is one, is seen to come before that of the row over three leaders.
+fn last_comes_before(slots: &[Slot], place: usize, row: RowId, v: VarId, w: VarId, x: VarId) -> bool
+    requires { place ≤ length slots.now }
+    ensures { IsTrue result → (k : ℕ) (d : DeclaredSlot) → suc k ≡ place → is_slot_before row (v ∷ w ∷ x ∷ []) (slice_index_or slots.now k d) ≡ true }
+{
+    if place == 0 {
+        return true;
+    }
+    comes_before(&slots[place - 1], row, v, w, x)
+}
+
+// Whether the slot at this place, if there is one, is seen to come behind it.
+fn next_comes_behind(slots: &[Slot], place: usize, row: RowId, v: VarId, w: VarId, x: VarId) -> bool
+    ensures { IsTrue result → (d : DeclaredSlot) → place < length slots.now → is_behind row (v ∷ w ∷ x ∷ []) (slice_index_or slots.now place d) ≡ true }
+{
+    if place >= slots.len() {
+        return true;
+    }
+    comes_behind(&slots[place], row, v, w, x)
+}
+
+// Whether no slot of the row over three leaders is there, as is seen by those about this place.
+fn is_gap(slots: &[Slot], place: usize, row: RowId, v: VarId, w: VarId, x: VarId) -> bool
+    requires { AllPairs SlotBefore slots.now }
+    ensures { IsTrue result → slot_at slots.now row (v ∷ w ∷ x ∷ []) ≡ None }
+{
+    if place > slots.len() {
+        return false;
+    }
+    if !last_comes_before(slots, place, row, v, w, x) {
+        return false;
+    }
+    next_comes_behind(slots, place, row, v, w, x)
 }
 
 // Whether the place is where the slot would stand, as its two neighbours say.
@@ -131,32 +187,81 @@ fn state_of_numbers(alloc: Global, row: RowId, a: i64, b: i64, c: i64) -> Result
     point(alloc, row, &[View::Int(a), View::Int(b), View::Int(c)])
 }
 
+// Whether a variable leads its class.
+fn leads(engine: &Engine, v: VarId) -> bool
+    requires { v.0 < length engine.now.kept.leaders }
+    ensures { IsTrue result → leader_of engine.now.kept.leaders v ≡ v }
+{
+    engine.classes().leader(v).0 == v.0
+}
+
+// Whether each of the variables does.
+fn all_lead(engine: &Engine, vars: &[VarId]) -> bool
+    requires { All (λ (v : VarId). v.0 < length engine.now.kept.leaders) vars.now }
+    ensures { IsTrue result → All (λ v. leader_of engine.now.kept.leaders v ≡ v) vars.now }
+{
+    for v in vars {
+        if !leads(engine, *v) {
+            return false;
+        }
+    }
+    true
+}
+
+// Whether the row is seen to be Broken over three leaders that aren't all constant: it has no slot there, as the place says, and no rule of
+// it follows.
+fn is_broken(noted: &Noted<'_>, place: usize, row: RowId, v: VarId, w: VarId, x: VarId) -> bool
+    requires row { IsRowOf noted.now.engine.now.grammar row }
+    requires some { 0 < noted.now.engine.now.kept.samples }
+    requires vars { IsTrue (admits row noted.now.engine.now.infos (v ∷ w ∷ x ∷ [])) }
+    ensures { IsTrue result → state_read noted.now.engine.now.kept row (v ∷ w ∷ x ∷ []) ≡ Broken }
+{
+    let kept = noted.engine.kept();
+    let vars = [v, w, x];
+    if !all_lead(noted.engine, &vars) {
+        return false;
+    }
+    if are_known(&kept.known, &vars) || !is_written(row, &vars) {
+        return false;
+    }
+    if !is_gap(kept.slots.as_slice(), place, row, v, w, x) {
+        return false;
+    }
+    !suppressed(row, &vars, noted)
+}
+
 /// The state of a row over three variables in one engine. Its slot is looked for at this place first, which then is the one behind it.
 pub(crate) fn state_of_three(
     alloc: Global,
-    engine: &Engine,
+    noted: &Noted<'_>,
     place: &mut usize,
     row: RowId,
     v: Told,
     w: Told,
     x: Told,
 ) -> Result<State, NoMemory>
-    requires row { IsRowOf engine.now.grammar row }
+    requires row { IsRowOf noted.now.engine.now.grammar row }
     requires three { arity_of row ≡ 3 }
-    requires some { 0 < engine.now.kept.samples }
-    requires vars { IsTrue (admits row engine.now.infos (v.var ∷ w.var ∷ x.var ∷ [])) }
-    requires v { v.number ≡ number_of engine.now.kept v.var }
-    requires w { w.number ≡ number_of engine.now.kept w.var }
-    requires x { x.number ≡ number_of engine.now.kept x.var }
-    ensures state { IfOk result (λ s. s ≡ state_read engine.now.kept row (v.var ∷ w.var ∷ x.var ∷ [])) }
+    requires some { 0 < noted.now.engine.now.kept.samples }
+    requires vars { IsTrue (admits row noted.now.engine.now.infos (v.var ∷ w.var ∷ x.var ∷ [])) }
+    requires v { v.number ≡ number_of noted.now.engine.now.kept v.var }
+    requires w { w.number ≡ number_of noted.now.engine.now.kept w.var }
+    requires x { x.number ≡ number_of noted.now.engine.now.kept x.var }
+    ensures state { IfOk result (λ s. s ≡ state_read noted.now.engine.now.kept row (v.var ∷ w.var ∷ x.var ∷ [])) }
     ensures proper { IfOk result (λ s. IsProper (form_of row) s) }
     ensures err { OnErr result (MayWantMemory row) }
 {
     if let (Some(a), Some(b), Some(c)) = (v.number, w.number, x.number) {
         return state_of_numbers(alloc, row, a, b, c);
     }
+    let engine = noted.engine;
     match slot_of(engine, place, row, v.var, w.var, x.var) {
         Some(slot) => slot.state.copy(alloc),
-        None => engine.answer(row, &[v.var, w.var, x.var]),
+        None => {
+            if is_broken(noted, *place, row, v.var, w.var, x.var) {
+                return Ok(State::Broken);
+            }
+            engine.answer(row, &[v.var, w.var, x.var])
+        }
     }
 }

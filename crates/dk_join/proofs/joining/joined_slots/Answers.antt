@@ -7,16 +7,16 @@ use Rattle.dk_join.specs.Joining.{Pair, answer_of}
 use Rattle.dk_join.proofs.joining.joined_slots.Goals as goal
 
 pub all-requires-clause-some : goal.all-requires-clause-some
-all-requires-clause-some c = subst HaveSamples (sym c.of-both.ensures) c.requires.some
+all-requires-clause-some c = subst HaveSamples (sym c.in_ok-both.ensures) c.requires.some
 
 pub all-requires-clause-leaders : goal.all-requires-clause-leaders
-all-requires-clause-leaders c = subst (λ p. AreLed p c.args.leaders.now) (sym c.of-both.ensures) c.requires.leaders
+all-requires-clause-leaders c = subst (λ p. AreLed p c.args.leaders.now) (sym c.in_ok-both.ensures) c.requires.leaders
 
 pub all-requires-clause-grammar : goal.all-requires-clause-grammar
-all-requires-clause-grammar c = ap (λ (p : Pair). p.first.grammar) c.of-both.ensures ∙ sym c.grammar.ensures
+all-requires-clause-grammar c = ap (λ (p : Pair). p.first.grammar) c.in_ok-both.ensures ∙ sym c.grammar.ensures
 
 pub returns : goal.returns
 returns c =
     let pair : Pair = record { first = c.args.first.now; second = c.args.second.now } in
     let Are : Pair → Grammar → Type 0 = λ p g. IfOk c.all.result (λ slots. slots ≡ slots_of g p.first.infos c.args.leaders.now c.args.known.now (answer_of p)) in
-    subst (Are pair) c.grammar.ensures (subst (λ p. Are p c.grammar.result) c.of-both.ensures c.all.ensures)
+    subst (Are pair) c.grammar.ensures (subst (λ p. Are p c.grammar.result) c.in_ok-both.ensures c.all.ensures)

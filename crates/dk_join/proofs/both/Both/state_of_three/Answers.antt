@@ -24,7 +24,7 @@ returns-then-matches-clause-state c =
     let told : c.first.result.var ∷ c.first-2.result.var ∷ c.first-3.result.var ∷ [] ≡ vars =
     λ i. (c.first.ensures i).var ∷ (c.first-2.ensures i).var ∷ (c.first-3.ensures i).var ∷ [] in
     let before : c.in_ok-state.state ≡ state_read pair.first.kept row vars =
-    c.in_ok-state.ensures.state ∙ (ap (state_read c.self.inside.first.now.kept row) told ∙ ap (λ (p : Pair). state_read p.first.kept row vars) c.self.view_is) in
+    c.in_ok-state.ensures.state ∙ (ap (state_read c.self.inside.first.engine.now.kept row) told ∙ ap (λ (p : Pair). state_read p.first.kept row vars) c.self.view_is) in
     let gone : c.in_ok-state.state ≡ Broken = elim c.match-matches.branch as (λ _. c.in_ok-state.state ≡ Broken) [
       | in-Broken w ↦ w.in-Broken.is
       | in_default w ↦ absurd (false≢true (sym w.matches-is ∙ c.if-matches.true))
@@ -44,9 +44,9 @@ returns-clause-state c =
     let state = c.in_ok-state.state in
     let other = c.in_ok-other.other in
     let before : state ≡ state_read pair.first.kept row vars =
-    c.in_ok-state.ensures.state ∙ (ap (state_read c.self.inside.first.now.kept row) told ∙ ap (λ (p : Pair). state_read p.first.kept row vars) c.self.view_is) in
+    c.in_ok-state.ensures.state ∙ (ap (state_read c.self.inside.first.engine.now.kept row) told ∙ ap (λ (p : Pair). state_read p.first.kept row vars) c.self.view_is) in
     let behind : other ≡ state_read pair.second.kept row vars =
-    c.in_ok-other.ensures.state ∙ (ap (state_read c.self.inside.second.now.kept row) also ∙ ap (λ (p : Pair). state_read p.second.kept row vars) c.self.view_is) in
+    c.in_ok-other.ensures.state ∙ (ap (state_read c.self.inside.second.engine.now.kept row) also ∙ ap (λ (p : Pair). state_read p.second.kept row vars) c.self.view_is) in
     IfOk-weaker c.join_states.result (λ s. s ≡ joined c.template_at.result.form state other) (λ s. s ≡ joined (form_of row) (state_read pair.first.kept row vars) (state_read pair.second.kept row vars))
     (λ s e. e ∙ (ap (λ (t : Template). joined t.form state other) c.template_at.ensures ∙ (ap (λ t. joined (form_of row) t other) before ∙ ap (joined (form_of row) (state_read pair.first.kept row vars)) behind))) c.join_states.ensures.state
 
