@@ -1,6 +1,5 @@
 pub mod Fronts
 pub mod Numerals
-pub mod ShortFields
 pub mod Plain
 pub mod ReadWithin
 pub mod Going
@@ -17,7 +16,6 @@ pub mod Declared
 pub mod Engines
 pub mod Passing
 pub mod PassedEngines
-pub mod PassedSlots
 pub mod CompactLeaders
 pub mod CompactParts
 pub mod SameTexts

@@ -44,7 +44,7 @@ behind_minus : (ds : List ℕ) (n : ℕ) → IsNumeral 10 ds → digits_value 10
 unfolding whole_of
 behind_minus ds n all is = rw (numeral_back ds (suc n) all is) refl
 
-pub whole_back : (z : ℤ) → unsigned_abs z < 2 ^ 127 → whole_of (signed_decimal z) ≡ Some z
+whole_back : (z : ℤ) → unsigned_abs z < 2 ^ 127 → whole_of (signed_decimal z) ≡ Some z
 whole_back (pos n) small = let h = decimal_is_IsNumeral_wide n (omega arith) in without_minus (decimal n) n h.0 h.1
 whole_back (negsuc n) small = let h = decimal_is_IsNumeral_wide (suc n) (omega arith) in behind_minus (decimal (suc n)) n h.0 h.1
 

@@ -4,8 +4,8 @@ use Rattle.std.specs.Borrow.{Bor}
 use Rattle.std.specs.Cmp.Lexicographic.{pointwise}
 use Rattle.std.proofs.Common.{◌∙◌, ap, arith, get_or, sym}
 use Rattle.std.proofs.lemmas.Bool.{and_parts, false≢true}
-use Rattle.std.proofs.lemmas.List.{flat_map_more, get_or_default, take_more}
-use Rattle.std.proofs.lemmas.List.Concat.{flat_map-cons}
+use Rattle.std.proofs.lemmas.List.{flat_map_more, take-append-drop, take_more}
+use Rattle.std.proofs.lemmas.List.Concat.{flat_map-append, flat_map-cons}
 use Rattle.dk_state.specs.Matching.{behind, is_end, left_behind}
 
 -- ---- one piece after another
@@ -27,6 +27,14 @@ pub nothing_passed : (left : Option (List ℕ)) → left_behind [] left ≡ left
 nothing_passed None = refl
 nothing_passed (Some bytes) = refl
 
+-- some of the items are passed, and then the others
+pub some_passed : {X : Type 0} (piece : X → List ℕ) (items : List X) (n : ℕ) (left next : Option (List ℕ))
+    → next ≡ left_behind (flat_map piece (take n items)) left → left_behind (flat_map piece (drop n items)) next ≡ left_behind (flat_map piece items) left
+some_passed piece items n left next step =
+    ap (left_behind (flat_map piece (drop n items))) step
+    ∙ sym (left_behind_both (flat_map piece (take n items)) (flat_map piece (drop n items)) left)
+    ∙ ap (λ t. left_behind t left) (sym (flat_map-append piece (take n items) (drop n items)) ∙ ap (flat_map piece) (take-append-drop n items))
+
 -- one piece more of several
 pub one_more_passed : {X : Type 0} (piece : X → List ℕ) (items : List X) (i : ℕ) (item : X) (start left next : Option (List ℕ)) → i < length items
     → item ≡ get_or items i item → left ≡ left_behind (flat_map piece (take i items)) start → next ≡ left_behind (piece item) left
@@ -37,13 +45,6 @@ one_more_passed piece items i item start left next lt here so_far step =
     ∙ ap (λ t. left_behind t start)
     (flat_map_more piece [] (take i items) item
     ∙ ap (flat_map piece) (ap (λ x. take i items ++ x ∷ []) here ∙ sym (take_more items i item lt)))
-
--- the same at any default
-pub one_more_passed_at : {X : Type 0} (piece : X → List ℕ) (items : List X) (i : ℕ) (d : X) (start left next : Option (List ℕ)) → i < length items
-    → left ≡ left_behind (flat_map piece (take i items)) start → next ≡ left_behind (piece (get_or items i d)) left
-    → next ≡ left_behind (flat_map piece (take (i + 1) items)) start
-one_more_passed_at piece items i d start left next lt so_far step =
-    one_more_passed piece items i (get_or items i d) start left next lt (get_or_default items i d (get_or items i d) lt) so_far step
 
 -- pieces of what the items are seen as
 pub mapped_pieces : {X Y : Type 0} (seen : X → Y) (piece : Y → List ℕ) (items : List X) → flat_map (λ x. piece (seen x)) items ≡ flat_map piece (map seen items)

@@ -9,7 +9,6 @@ ghost use Rattle.dk_base.specs.Values.{IsOfKind, value_of_text};
 ghost use Rattle.dk_state.specs.Lines.{behind_blank};
 ghost use Rattle.dk_state.specs.Reading.{BeginsWith, HasNone, begins_number, ends_field, ends_line};
 
-use crate::numbers::short_field;
 use dk_base::{
     Arena, Kind, NoMemory, Text, Value, ValueFault, in_i64, in_u64, parse_integer, parse_value,
     parse_wide, unescape,
@@ -185,29 +184,14 @@ impl<'a> Front<'a> {
         }
     }
 
-    // A whole number as a field, whatever its length.
-    fn any_wide(&mut self) -> i128
+    /// A whole number as a field.
+    pub(crate) fn wide(&mut self) -> i128
         ensures read { (z : ℤ) (rest : List ℕ) → unsigned_abs z < 2 ^ 127 → BeginsWith ends_field rest → self.old ≡ behind_blank (signed_decimal z) ++ rest → (result ≡ z) × (self.new ≡ rest) }
         ensures within { unsigned_abs result < 2 ^ 127 }
         ensures shorter { length self.new ≤ length self.old - 1 }
     {
         let number = wide_in(self.field());
         self.or_give_up(number, 0)
-    }
-
-    /// A whole number as a field, which mostly is a short one.
-    pub(crate) fn wide(&mut self) -> i128
-        ensures read { (z : ℤ) (rest : List ℕ) → unsigned_abs z < 2 ^ 127 → BeginsWith ends_field rest → self.old ≡ behind_blank (signed_decimal z) ++ rest → (result ≡ z) × (self.new ≡ rest) }
-        ensures within { unsigned_abs result < 2 ^ 127 }
-        ensures shorter { length self.new ≤ length self.old - 1 }
-    {
-        match short_field(self.left) {
-            Some((number, rest)) => {
-                self.left = rest;
-                i128::from(number)
-            }
-            None => self.any_wide(),
-        }
     }
 
     /// A whole number of 64 bits with its sign, as a field.

@@ -102,8 +102,8 @@ fn push_slot(alloc: Global, text: &mut Text, slot: &Slot) -> Result<(), NoMemory
     end_line(text)
 }
 
-// The lines of slots, behind the text.
-fn push_slots(alloc: Global, text: &mut Text, slots: &[Slot]) -> Result<(), NoMemory>
+/// The lines of slots, behind the text.
+pub(crate) fn push_slots(alloc: Global, text: &mut Text, slots: &[Slot]) -> Result<(), NoMemory>
     ensures { OnOk result (text.new ≡ text.old ++ flat_map slot_line slots.now) }
 {
     for slot in slots {

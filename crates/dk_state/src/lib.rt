@@ -10,7 +10,6 @@ mod kept;
 pub mod laws;
 mod loading;
 mod matching;
-mod numbers;
 mod reading;
 mod reading_kept;
 mod reading_states;

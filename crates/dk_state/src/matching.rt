@@ -1,29 +1,23 @@
 // Bytes that are held against a state, whose text is made line by line and not kept.
-ghost use Rattle.std.specs.Prelude.{◌≡◌, All, OnOk, IfOk, IfSome, Some, flat_map, map};
-ghost use Rattle.std.specs.Fmt.{signed_decimal};
+ghost use Rattle.std.specs.Prelude.{◌≡◌, All, OnOk, IfOk, Some, flat_map, map};
 ghost use Rattle.std.specs.List.{enumerate_from};
 ghost use Rattle.std.specs.Str.{bytes_eq};
 ghost use Rattle.dk_classes.specs.Leaders.{own_leaders};
 ghost use Rattle.dk_parts.specs.Patterns.{pattern_of, patterns_of};
 ghost use Rattle.dk_samples.specs.Leaders.{VarsAscend};
 ghost use Rattle.dk_state.specs.Kept.{pattern_line, slot_line};
-ghost use Rattle.dk_state.specs.Lines.{behind_blank, fields_text, var_fields};
 ghost use Rattle.dk_state.specs.Matching.{is_end, left_behind};
 ghost use Rattle.dk_state.specs.Saved.{kept_lines, saved_text};
-ghost use Rattle.dk_state.specs.States.{state_fields};
 
 use crate::declarations::push_points;
-use crate::fields::push_number;
-use crate::kept::{patterns_of, push_constants, push_opening, push_pattern};
-use crate::numbers::behind_number;
+use crate::kept::{patterns_of, push_constants, push_opening, push_pattern, push_slots};
 use crate::saving::push_head;
-use crate::states::push_state;
 use dk_base::{NoMemory, Text, VarId};
 use dk_engine::{Engine, Pattern, Slot};
 use dk_parts::{held_in_order, pattern_of};
 use dk_points::Points;
 use dk_presence::Held;
-use dk_template::{Grammar, State};
+use dk_template::Grammar;
 use std::alloc::Global;
 use std::marker::Model;
 
@@ -55,39 +49,6 @@ impl<'a> Rest<'a> {
     {
         if let Some(bytes) = self.left {
             self.left = bytes.strip_prefix(piece);
-        }
-    }
-
-    // What is left behind a number as a field; none where it isn't seen at once.
-    fn seen_behind(&self, number: i128) -> Option<&'a [u8]>
-        ensures { IfSome result (λ rest. left_behind (behind_blank (signed_decimal number)) self.now ≡ Some rest.now) }
-    {
-        match self.left {
-            Some(bytes) => behind_number(bytes, number),
-            None => None,
-        }
-    }
-
-    // Passes a number as a field, by its text.
-    fn pass_spelled(&mut self, alloc: Global, number: i128) -> Result<(), NoMemory>
-        ensures { OnOk result (self.new ≡ left_behind (behind_blank (signed_decimal number)) self.old) }
-    {
-        let mut text = Text::new(alloc);
-        push_number(&mut text, number)?;
-        self.pass(text.as_slice());
-        Ok(())
-    }
-
-    // Passes a number as a field.
-    fn pass_number(&mut self, alloc: Global, number: i128) -> Result<(), NoMemory>
-        ensures { OnOk result (self.new ≡ left_behind (behind_blank (signed_decimal number)) self.old) }
-    {
-        match self.seen_behind(number) {
-            Some(bytes) => {
-                self.left = Some(bytes);
-                Ok(())
-            }
-            None => self.pass_spelled(alloc, number),
         }
     }
 
@@ -149,112 +110,28 @@ fn pass_own_patterns(alloc: Global, rest: &mut Rest<'_>, engine: &Engine) -> Res
     pass_patterns(alloc, rest, patterns_of(alloc, engine)?.as_slice())
 }
 
-// Passes variables, each as a field.
-fn pass_vars(alloc: Global, rest: &mut Rest<'_>, vars: &[VarId]) -> Result<(), NoMemory>
-    ensures { OnOk result (rest.new ≡ left_behind (fields_text (var_fields vars.now)) rest.old) }
+// How many slots' lines are made at a time.
+const BLOCK: usize = 64;
+
+// Passes the lines of some slots at once.
+fn pass_block(alloc: Global, rest: &mut Rest<'_>, slots: &[Slot]) -> Result<(), NoMemory>
+    ensures { OnOk result (rest.new ≡ left_behind (flat_map slot_line slots.now) rest.old) }
 {
-    for v in vars {
-        rest.pass_number(alloc, i128::from(v.0))?;
-    }
+    let mut lines = Text::new(alloc);
+    push_slots(alloc, &mut lines, slots)?;
+    rest.pass(lines.as_slice());
     Ok(())
 }
 
-// Passes numbers, each as a field.
-fn pass_numbers(alloc: Global, rest: &mut Rest<'_>, numbers: &[i128]) -> Result<(), NoMemory>
-    ensures { OnOk result (rest.new ≡ left_behind (fields_text (map signed_decimal numbers.now)) rest.old) }
-{
-    for number in numbers {
-        rest.pass_number(alloc, *number)?;
-    }
-    Ok(())
-}
-
-// Passes the fields of a state, by its text.
-fn pass_spelled_state(alloc: Global, rest: &mut Rest<'_>, state: &State) -> Result<(), NoMemory>
-    ensures { OnOk result (rest.new ≡ left_behind (fields_text (state_fields state.now)) rest.old) }
-{
-    let mut text = Text::new(alloc);
-    push_state(alloc, &mut text, state)?;
-    rest.pass(text.as_slice());
-    Ok(())
-}
-
-// Passes the fields of a stretch.
-fn pass_span(
-    alloc: Global,
-    rest: &mut Rest<'_>,
-    x1: i64,
-    y1: i64,
-    z1: i64,
-    x2: i64,
-    y2: i64,
-    z2: i64,
-) -> Result<(), NoMemory>
-    ensures { OnOk result (rest.new ≡ left_behind (fields_text (state_fields (State.Span x1 y1 z1 x2 y2 z2))) rest.old) }
-{
-    rest.pass(b" span");
-    let numbers = [
-        i128::from(x1),
-        i128::from(y1),
-        i128::from(z1),
-        i128::from(x2),
-        i128::from(y2),
-        i128::from(z2),
-    ];
-    pass_numbers(alloc, rest, &numbers)
-}
-
-// Passes the fields of a plane.
-fn pass_plane(
-    alloc: Global,
-    rest: &mut Rest<'_>,
-    a: i128,
-    b: i128,
-    c: i128,
-    d: i128,
-) -> Result<(), NoMemory>
-    ensures { OnOk result (rest.new ≡ left_behind (fields_text (state_fields (State.Plane a b c d))) rest.old) }
-{
-    rest.pass(b" plane");
-    pass_numbers(alloc, rest, &[a, b, c, d])
-}
-
-// Passes the fields of a state. Those of most slots are numbers.
-fn pass_state(alloc: Global, rest: &mut Rest<'_>, state: &State) -> Result<(), NoMemory>
-    ensures { OnOk result (rest.new ≡ left_behind (fields_text (state_fields state.now)) rest.old) }
-{
-    match state {
-        State::Span {
-            x1,
-            y1,
-            z1,
-            x2,
-            y2,
-            z2,
-        } => pass_span(alloc, rest, *x1, *y1, *z1, *x2, *y2, *z2),
-        State::Plane { a, b, c, d } => pass_plane(alloc, rest, *a, *b, *c, *d),
-        _ => pass_spelled_state(alloc, rest, state),
-    }
-}
-
-// Passes a slot's line.
-fn pass_slot(alloc: Global, rest: &mut Rest<'_>, slot: &Slot) -> Result<(), NoMemory>
-    ensures { OnOk result (rest.new ≡ left_behind (slot_line slot.now) rest.old) }
-{
-    rest.pass(b"slot");
-    rest.pass_number(alloc, i128::from(slot.row.0))?;
-    pass_vars(alloc, rest, slot.leaders.as_slice())?;
-    pass_state(alloc, rest, &slot.state)?;
-    rest.pass(b"\n");
-    Ok(())
-}
-
-// Passes the lines of slots.
+// Passes the lines of slots, block by block.
 fn pass_slots(alloc: Global, rest: &mut Rest<'_>, slots: &[Slot]) -> Result<(), NoMemory>
     ensures { OnOk result (rest.new ≡ left_behind (flat_map slot_line slots.now) rest.old) }
 {
-    for slot in slots {
-        pass_slot(alloc, rest, slot)?;
+    let mut left = slots;
+    while !left.is_empty() {
+        let (block, behind) = left.split_at(left.len().min(BLOCK));
+        pass_block(alloc, rest, block)?;
+        left = behind;
     }
     Ok(())
 }

@@ -1,8 +1,16 @@
+use Rattle.std.proofs.Common.{◌∙◌, ap}
+use Rattle.dk_engine.specs.declared.slot.Slot.{Slot}
+use Rattle.std.specs.Prelude.{List, flat_map}
 use Rattle.dk_state.specs.Kept.{slot_line}
-use Rattle.dk_state.proofs.Passing.{one_more_passed}
+use Rattle.dk_state.specs.Matching.{left_behind}
+use Rattle.dk_state.proofs.Passing.{some_passed}
 use Rattle.dk_state.proofs.matching.pass_slots.Goals as goal
 
-pub loop-slot-preserved : goal.loop-slot-preserved
-loop-slot-preserved c =
-    one_more_passed slot_line c.args.slots.now c.loop-slot.slot-index c.slot-item.result c.args.rest.now c.loop-slot.rest c.pass_slot.new.rest
-    c.loop-slot-test.true c.slot-item.is c.loop-slot.invariant c.in_ok-pass_slot.ensures
+pub loop-left-preserved : goal.loop-left-preserved
+loop-left-preserved c =
+    let left = c.loop-left.left.now in
+    let before = c.loop-left.rest in
+    let after = c.pass_block.new.rest in
+    ap (λ (slots : List Slot). left_behind (flat_map slot_line slots) after) c.split_at.ensures.back
+    ∙ (some_passed slot_line left c.min.result before after
+    (c.in_ok-pass_block.ensures ∙ ap (λ (slots : List Slot). left_behind (flat_map slot_line slots) before) c.split_at.ensures.front) ∙ c.loop-left.invariant)
