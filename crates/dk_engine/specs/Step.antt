@@ -15,6 +15,7 @@ use Rattle.dk_presence.specs.Patterns.{pattern_count, present_in}
 use Rattle.dk_suppress.specs.Rules.{Rule, asks, is_suppressed, rules}
 use Rattle.dk_template.specs.Admitted.{admits, is_written}
 use Rattle.dk_template.specs.Exchange.{written_order}
+use Rattle.dk_template.specs.Numbers as number
 use Rattle.dk_template.specs.Premises.{premise_fits, row_of, suffices, vars_of}
 use Rattle.dk_template.specs.Templates.{IsRowOf, rank_of}
 use Rattle.dk_template.specs.declared.answers.Premise.{Premise}
@@ -137,7 +138,7 @@ is_empty_state _ = false
 
 -- the rows of the least and the greatest element, which are Empty also of sequences that are there and have no elements
 abbrev pub is_of_elements : RowId → Bool
-is_of_elements row = row.0 == 36 || row.0 == 37
+is_of_elements row = row.0 == number.elt_lower || row.0 == number.elt_upper
 
 abbrev pub asks_elements : Rule → Bool
 asks_elements r = list_any (λ p. is_of_elements (row_of p)) r.1

@@ -4,12 +4,27 @@ use Rattle.std.specs.List.{dedup, list_all, list_any, range_with_len}
 use Rattle.std.specs.Ordering.{int_eq}
 use Rattle.dk_base.specs.declared.kinds.VarId.{VarId}
 use Rattle.dk_forms.specs.declared.states.State.{State}
+use Rattle.dk_template.specs.Numbers as number
 use Rattle.dk_template.specs.Premises.{premise_fits, row_of}
 use Rattle.dk_template.specs.declared.answers.Premise.{Premise}
 use Rattle.dk_template.specs.declared.answers.Premise.TheVariants.{Holds, LeastAtLeast, GreatestAtMost, Only}
 use Rattle.dk_template.specs.declared.grammar.RowId.{RowId}
 
 -- ---- the table
+-- the roles of a conclusion
+abbrev pub first : ℕ
+first = 0
+
+abbrev pub second : ℕ
+second = 1
+
+abbrev pub third : ℕ
+third = 2
+
+-- what is written for a role that a row doesn't have
+abbrev pub no_role : ℕ
+no_role = 0
+
 -- a rule: its conclusion, and its premises over the roles of the conclusion
 abbrev pub Rule : Type 0
 Rule = RowId × List Premise
@@ -17,12 +32,12 @@ Rule = RowId × List Premise
 abbrev pub rule : ℕ → List Premise → Rule
 rule conclusion premises = (record { 0 = conclusion }, premises)
 
--- the row holds over the roles; a role that the row doesn't have is written as 0
+-- the row holds over the roles
 abbrev pub holds_of_one : ℕ → ℕ → Premise
-holds_of_one row a = Holds (record { 0 = row }) (a ∷ 0 ∷ 0 ∷ [])
+holds_of_one row a = Holds (record { 0 = row }) (a ∷ no_role ∷ no_role ∷ [])
 
 abbrev pub holds_of_two : ℕ → ℕ → ℕ → Premise
-holds_of_two row a b = Holds (record { 0 = row }) (a ∷ b ∷ 0 ∷ [])
+holds_of_two row a b = Holds (record { 0 = row }) (a ∷ b ∷ no_role ∷ [])
 
 abbrev pub holds_of_three : ℕ → ℕ → ℕ → ℕ → Premise
 holds_of_three row a b c = Holds (record { 0 = row }) (a ∷ b ∷ c ∷ [])
@@ -38,66 +53,66 @@ greatest row role k = GreatestAtMost (record { 0 = row }) role k
 -- rows 24 to 34 they are z, x, y.
 unfoldable pub rules : List Rule
 rules =
-    rule 4 (least 2 0 (pos 1) ∷ [])  -- x != 0: x >= 1
-    ∷ rule 4 (greatest 3 0 (negsuc 0) ∷ [])  -- x != 0: x <= -1
-    ∷ rule 12 (holds_of_two 13 0 1 ∷ [])  -- x != y: x < y
-    ∷ rule 12 (holds_of_two 13 1 0 ∷ [])  -- x != y: y < x
-    ∷ rule 14 (holds_of_two 13 0 1 ∷ [])  -- x <= y: x < y
-    ∷ rule 14 (holds_of_two 11 0 1 ∷ [])  -- x <= y: x == y
-    ∷ rule 16 (holds_of_two 11 0 1 ∷ holds_of_one 4 1 ∷ [])  -- x % y == 0: x == y and y != 0
-    ∷ rule 16 (Only 1 (pos 1) ∷ [])  -- x % y == 0: y is only 1
-    ∷ rule 16 (Only 1 (negsuc 0) ∷ [])  -- x % y == 0: y is only -1
-    ∷ rule 16 (Only 0 (pos 0) ∷ holds_of_one 4 1 ∷ [])  -- x % y == 0: x is only 0 and y != 0
-    ∷ rule 17 (holds_of_two 11 0 1 ∷ least 2 0 (pos 0) ∷ greatest 3 0 (pos 1) ∷ [])  -- x == y * y: x == y and x >= 0 and x <= 1
-    ∷ rule 24 (holds_of_two 11 0 1 ∷ Only 2 (pos 0) ∷ [])  -- z == x + y: z == x and y is only 0
-    ∷ rule 24 (holds_of_two 11 0 2 ∷ Only 1 (pos 0) ∷ [])  -- z == x + y: z == y and x is only 0
-    ∷ rule 25 (holds_of_three 24 1 0 2 ∷ [])  -- z == x - y: x == z + y
-    ∷ rule 26 (holds_of_two 11 0 1 ∷ Only 2 (pos 1) ∷ [])  -- z == x * y: z == x and y is only 1
-    ∷ rule 26 (holds_of_two 11 0 2 ∷ Only 1 (pos 1) ∷ [])  -- z == x * y: z == y and x is only 1
-    ∷ rule 26 (Only 0 (pos 0) ∷ Only 1 (pos 0) ∷ [])  -- z == x * y: z is only 0 and x is only 0
-    ∷ rule 26 (Only 0 (pos 0) ∷ Only 2 (pos 0) ∷ [])  -- z == x * y: z is only 0 and y is only 0
-    ∷ rule 27 (holds_of_two 11 0 1 ∷ holds_of_two 14 1 2 ∷ [])  -- z == min(x, y): z == x and x <= y
-    ∷ rule 27 (holds_of_two 11 0 2 ∷ holds_of_two 14 2 1 ∷ [])  -- z == min(x, y): z == y and y <= x
-    ∷ rule 28 (holds_of_two 11 0 1 ∷ holds_of_two 14 2 1 ∷ [])  -- z == max(x, y): z == x and y <= x
-    ∷ rule 28 (holds_of_two 11 0 2 ∷ holds_of_two 14 1 2 ∷ [])  -- z == max(x, y): z == y and x <= y
-    ∷ rule 29 (holds_of_two 11 0 1 ∷ Only 2 (pos 1) ∷ [])  -- z == x / y: z == x and y is only 1
-    ∷ rule 29 (Only 0 (pos 0) ∷ Only 1 (pos 0) ∷ holds_of_one 4 2 ∷ [])  -- z == x / y: z is only 0 and x is only 0 and y != 0
-    ∷ rule 29 (Only 0 (pos 1) ∷ holds_of_two 11 1 2 ∷ holds_of_one 4 2 ∷ [])  -- z == x / y: z is only 1 and x == y and y != 0
-    ∷ rule 29 (Only 0 (pos 0) ∷ least 2 1 (pos 0) ∷ holds_of_two 13 1 2 ∷ [])  -- z == x / y: z is only 0 and x >= 0 and x < y
-    ∷ rule 30 (Only 0 (pos 0) ∷ holds_of_two 16 1 2 ∷ [])  -- z == x % y: z is only 0 and x % y == 0
-    ∷ rule 30 (holds_of_two 11 0 1 ∷ least 2 1 (pos 0) ∷ holds_of_two 13 1 2 ∷ [])  -- z == x % y: z == x and x >= 0 and x < y
-    ∷ rule 31 (holds_of_two 11 0 1 ∷ holds_of_two 11 1 2 ∷ [])  -- z == x & y: z == x and x == y
-    ∷ rule 31 (Only 0 (pos 0) ∷ Only 1 (pos 0) ∷ [])  -- z == x & y: z is only 0 and x is only 0
-    ∷ rule 31 (Only 0 (pos 0) ∷ Only 2 (pos 0) ∷ [])  -- z == x & y: z is only 0 and y is only 0
-    ∷ rule 31 (holds_of_two 11 0 1 ∷ Only 2 (negsuc 0) ∷ [])  -- z == x & y: z == x and y is only -1
-    ∷ rule 31 (holds_of_two 11 0 2 ∷ Only 1 (negsuc 0) ∷ [])  -- z == x & y: z == y and x is only -1
-    ∷ rule 32 (holds_of_two 11 0 1 ∷ holds_of_two 11 1 2 ∷ [])  -- z == x | y: z == x and x == y
-    ∷ rule 32 (holds_of_two 11 0 1 ∷ Only 2 (pos 0) ∷ [])  -- z == x | y: z == x and y is only 0
-    ∷ rule 32 (holds_of_two 11 0 2 ∷ Only 1 (pos 0) ∷ [])  -- z == x | y: z == y and x is only 0
-    ∷ rule 33 (holds_of_two 11 0 1 ∷ Only 2 (pos 0) ∷ [])  -- z == x ^ y: z == x and y is only 0
-    ∷ rule 33 (holds_of_two 11 0 2 ∷ Only 1 (pos 0) ∷ [])  -- z == x ^ y: z == y and x is only 0
-    ∷ rule 33 (Only 0 (pos 0) ∷ holds_of_two 11 1 2 ∷ [])  -- z == x ^ y: z is only 0 and x == y
-    ∷ rule 34 (Only 0 (pos 1) ∷ Only 1 (pos 1) ∷ [])  -- z == gcd(x, y): z is only 1 and x is only 1
-    ∷ rule 34 (Only 0 (pos 1) ∷ Only 2 (pos 1) ∷ [])  -- z == gcd(x, y): z is only 1 and y is only 1
-    ∷ rule 34 (holds_of_two 11 0 1 ∷ least 2 1 (pos 1) ∷ holds_of_two 16 2 1 ∷ [])  -- z == gcd(x, y): z == x and x >= 1 and y % x == 0
-    ∷ rule 34 (holds_of_two 11 0 2 ∷ least 2 2 (pos 1) ∷ holds_of_two 16 1 2 ∷ [])  -- z == gcd(x, y): z == y and y >= 1 and x % y == 0
-    ∷ rule 38 (least 36 0 (pos 1) ∷ [])  -- s elements != 0: s elements >= 1
-    ∷ rule 38 (greatest 37 0 (negsuc 0) ∷ [])  -- s elements != 0: s elements <= -1
-    ∷ rule 40 (holds_of_one 39 0 ∷ [])  -- s sorted by <=: s sorted by <
-    ∷ rule 40 (holds_of_one 43 0 ∷ [])  -- s sorted by <=: s elements are equal
-    ∷ rule 42 (holds_of_one 41 0 ∷ [])  -- s sorted by >=: s sorted by >
-    ∷ rule 42 (holds_of_one 43 0 ∷ [])  -- s sorted by >=: s elements are equal
-    ∷ rule 54 (holds_of_two 53 0 1 ∷ [])  -- s elements <= x: s elements < x
-    ∷ rule 54 (holds_of_two 52 0 1 ∷ [])  -- s elements <= x: s elements == x
-    ∷ rule 56 (holds_of_two 55 0 1 ∷ [])  -- s elements >= x: s elements > x
-    ∷ rule 56 (holds_of_two 52 0 1 ∷ [])  -- s elements >= x: s elements == x
-    ∷ rule 62 (holds_of_two 61 0 1 ∷ [])  -- s <= t, pair by pair: s < t, pair by pair
-    ∷ rule 62 (holds_of_two 57 0 1 ∷ [])  -- s <= t, pair by pair: s == t
-    ∷ rule 63 (holds_of_two 57 0 1 ∷ [])  -- s is a subset of t (numbers): s == t
-    ∷ rule 63 (holds_of_two 66 0 1 ∷ [])  -- s is a subset of t (numbers): s is the reverse of t
-    ∷ rule 64 (holds_of_two 59 0 1 ∷ [])  -- s is a subset of t (hash codes): s == t
-    ∷ rule 65 (holds_of_two 60 0 1 ∷ [])  -- s is a subset of t (strings): s == t
-    ∷ rule 66 (holds_of_two 57 0 1 ∷ holds_of_one 43 0 ∷ [])  -- s is the reverse of t: s == t and s elements are equal
+    rule number.non_zero (least number.lower_bound first (pos 1) ∷ [])  -- x != 0: x >= 1
+    ∷ rule number.non_zero (greatest number.upper_bound first (negsuc 0) ∷ [])  -- x != 0: x <= -1
+    ∷ rule number.ne_int (holds_of_two number.lt first second ∷ [])  -- x != y: x < y
+    ∷ rule number.ne_int (holds_of_two number.lt second first ∷ [])  -- x != y: y < x
+    ∷ rule number.le (holds_of_two number.lt first second ∷ [])  -- x <= y: x < y
+    ∷ rule number.le (holds_of_two number.eq_int first second ∷ [])  -- x <= y: x == y
+    ∷ rule number.divides (holds_of_two number.eq_int first second ∷ holds_of_one number.non_zero second ∷ [])  -- x % y == 0: x == y and y != 0
+    ∷ rule number.divides (Only second (pos 1) ∷ [])  -- x % y == 0: y is only 1
+    ∷ rule number.divides (Only second (negsuc 0) ∷ [])  -- x % y == 0: y is only -1
+    ∷ rule number.divides (Only first (pos 0) ∷ holds_of_one number.non_zero second ∷ [])  -- x % y == 0: x is only 0 and y != 0
+    ∷ rule number.square (holds_of_two number.eq_int first second ∷ least number.lower_bound first (pos 0) ∷ greatest number.upper_bound first (pos 1) ∷ [])  -- x == y * y: x == y and x >= 0 and x <= 1
+    ∷ rule number.sum (holds_of_two number.eq_int first second ∷ Only third (pos 0) ∷ [])  -- z == x + y: z == x and y is only 0
+    ∷ rule number.sum (holds_of_two number.eq_int first third ∷ Only second (pos 0) ∷ [])  -- z == x + y: z == y and x is only 0
+    ∷ rule number.difference (holds_of_three number.sum second first third ∷ [])  -- z == x - y: x == z + y
+    ∷ rule number.product (holds_of_two number.eq_int first second ∷ Only third (pos 1) ∷ [])  -- z == x * y: z == x and y is only 1
+    ∷ rule number.product (holds_of_two number.eq_int first third ∷ Only second (pos 1) ∷ [])  -- z == x * y: z == y and x is only 1
+    ∷ rule number.product (Only first (pos 0) ∷ Only second (pos 0) ∷ [])  -- z == x * y: z is only 0 and x is only 0
+    ∷ rule number.product (Only first (pos 0) ∷ Only third (pos 0) ∷ [])  -- z == x * y: z is only 0 and y is only 0
+    ∷ rule number.minimum (holds_of_two number.eq_int first second ∷ holds_of_two number.le second third ∷ [])  -- z == min(x, y): z == x and x <= y
+    ∷ rule number.minimum (holds_of_two number.eq_int first third ∷ holds_of_two number.le third second ∷ [])  -- z == min(x, y): z == y and y <= x
+    ∷ rule number.maximum (holds_of_two number.eq_int first second ∷ holds_of_two number.le third second ∷ [])  -- z == max(x, y): z == x and y <= x
+    ∷ rule number.maximum (holds_of_two number.eq_int first third ∷ holds_of_two number.le second third ∷ [])  -- z == max(x, y): z == y and x <= y
+    ∷ rule number.quotient (holds_of_two number.eq_int first second ∷ Only third (pos 1) ∷ [])  -- z == x / y: z == x and y is only 1
+    ∷ rule number.quotient (Only first (pos 0) ∷ Only second (pos 0) ∷ holds_of_one number.non_zero third ∷ [])  -- z == x / y: z is only 0 and x is only 0 and y != 0
+    ∷ rule number.quotient (Only first (pos 1) ∷ holds_of_two number.eq_int second third ∷ holds_of_one number.non_zero third ∷ [])  -- z == x / y: z is only 1 and x == y and y != 0
+    ∷ rule number.quotient (Only first (pos 0) ∷ least number.lower_bound second (pos 0) ∷ holds_of_two number.lt second third ∷ [])  -- z == x / y: z is only 0 and x >= 0 and x < y
+    ∷ rule number.remainder (Only first (pos 0) ∷ holds_of_two number.divides second third ∷ [])  -- z == x % y: z is only 0 and x % y == 0
+    ∷ rule number.remainder (holds_of_two number.eq_int first second ∷ least number.lower_bound second (pos 0) ∷ holds_of_two number.lt second third ∷ [])  -- z == x % y: z == x and x >= 0 and x < y
+    ∷ rule number.and (holds_of_two number.eq_int first second ∷ holds_of_two number.eq_int second third ∷ [])  -- z == x & y: z == x and x == y
+    ∷ rule number.and (Only first (pos 0) ∷ Only second (pos 0) ∷ [])  -- z == x & y: z is only 0 and x is only 0
+    ∷ rule number.and (Only first (pos 0) ∷ Only third (pos 0) ∷ [])  -- z == x & y: z is only 0 and y is only 0
+    ∷ rule number.and (holds_of_two number.eq_int first second ∷ Only third (negsuc 0) ∷ [])  -- z == x & y: z == x and y is only -1
+    ∷ rule number.and (holds_of_two number.eq_int first third ∷ Only second (negsuc 0) ∷ [])  -- z == x & y: z == y and x is only -1
+    ∷ rule number.or (holds_of_two number.eq_int first second ∷ holds_of_two number.eq_int second third ∷ [])  -- z == x | y: z == x and x == y
+    ∷ rule number.or (holds_of_two number.eq_int first second ∷ Only third (pos 0) ∷ [])  -- z == x | y: z == x and y is only 0
+    ∷ rule number.or (holds_of_two number.eq_int first third ∷ Only second (pos 0) ∷ [])  -- z == x | y: z == y and x is only 0
+    ∷ rule number.xor (holds_of_two number.eq_int first second ∷ Only third (pos 0) ∷ [])  -- z == x ^ y: z == x and y is only 0
+    ∷ rule number.xor (holds_of_two number.eq_int first third ∷ Only second (pos 0) ∷ [])  -- z == x ^ y: z == y and x is only 0
+    ∷ rule number.xor (Only first (pos 0) ∷ holds_of_two number.eq_int second third ∷ [])  -- z == x ^ y: z is only 0 and x == y
+    ∷ rule number.gcd (Only first (pos 1) ∷ Only second (pos 1) ∷ [])  -- z == gcd(x, y): z is only 1 and x is only 1
+    ∷ rule number.gcd (Only first (pos 1) ∷ Only third (pos 1) ∷ [])  -- z == gcd(x, y): z is only 1 and y is only 1
+    ∷ rule number.gcd (holds_of_two number.eq_int first second ∷ least number.lower_bound second (pos 1) ∷ holds_of_two number.divides third second ∷ [])  -- z == gcd(x, y): z == x and x >= 1 and y % x == 0
+    ∷ rule number.gcd (holds_of_two number.eq_int first third ∷ least number.lower_bound third (pos 1) ∷ holds_of_two number.divides second third ∷ [])  -- z == gcd(x, y): z == y and y >= 1 and x % y == 0
+    ∷ rule number.elt_non_zero (least number.elt_lower first (pos 1) ∷ [])  -- s elements != 0: s elements >= 1
+    ∷ rule number.elt_non_zero (greatest number.elt_upper first (negsuc 0) ∷ [])  -- s elements != 0: s elements <= -1
+    ∷ rule number.sorted_le (holds_of_one number.sorted_lt first ∷ [])  -- s sorted by <=: s sorted by <
+    ∷ rule number.sorted_le (holds_of_one number.elts_equal first ∷ [])  -- s sorted by <=: s elements are equal
+    ∷ rule number.sorted_ge (holds_of_one number.sorted_gt first ∷ [])  -- s sorted by >=: s sorted by >
+    ∷ rule number.sorted_ge (holds_of_one number.elts_equal first ∷ [])  -- s sorted by >=: s elements are equal
+    ∷ rule number.elt_le (holds_of_two number.elt_lt first second ∷ [])  -- s elements <= x: s elements < x
+    ∷ rule number.elt_le (holds_of_two number.elt_eq first second ∷ [])  -- s elements <= x: s elements == x
+    ∷ rule number.elt_ge (holds_of_two number.elt_gt first second ∷ [])  -- s elements >= x: s elements > x
+    ∷ rule number.elt_ge (holds_of_two number.elt_eq first second ∷ [])  -- s elements >= x: s elements == x
+    ∷ rule number.pair_le (holds_of_two number.pair_lt first second ∷ [])  -- s <= t, pair by pair: s < t, pair by pair
+    ∷ rule number.pair_le (holds_of_two number.eq_int_seq first second ∷ [])  -- s <= t, pair by pair: s == t
+    ∷ rule number.subset_int (holds_of_two number.eq_int_seq first second ∷ [])  -- s is a subset of t (numbers): s == t
+    ∷ rule number.subset_int (holds_of_two number.reverse first second ∷ [])  -- s is a subset of t (numbers): s is the reverse of t
+    ∷ rule number.subset_hash (holds_of_two number.eq_hash_seq first second ∷ [])  -- s is a subset of t (hash codes): s == t
+    ∷ rule number.subset_str (holds_of_two number.eq_str_seq first second ∷ [])  -- s is a subset of t (strings): s == t
+    ∷ rule number.reverse (holds_of_two number.eq_int_seq first second ∷ holds_of_one number.elts_equal first ∷ [])  -- s is the reverse of t: s == t and s elements are equal
     ∷ []
 
 -- ---- what the table says of a row

@@ -4,7 +4,24 @@ ghost use Rattle.dk_suppress.specs.Parts.{rules_of, starts};
 ghost use Rattle.dk_suppress.specs.Rules.{asked_by_number, asked_of, rules};
 ghost use Rattle.dk_suppress.specs.Told.{told};
 
+use dk_template::rows::{
+    AND, DIFFERENCE, DIVIDES, ELT_EQ, ELT_GE, ELT_GT, ELT_LE, ELT_LOWER, ELT_LT, ELT_NON_ZERO,
+    ELT_UPPER, ELTS_EQUAL, EQ_HASH_SEQ, EQ_INT, EQ_INT_SEQ, EQ_STR_SEQ, GCD, LE, LOWER_BOUND, LT,
+    MAXIMUM, MINIMUM, NE_INT, NON_ZERO, OR, PAIR_LE, PAIR_LT, PRODUCT, QUOTIENT, REMAINDER,
+    REVERSE, SORTED_GE, SORTED_GT, SORTED_LE, SORTED_LT, SQUARE, SUBSET_HASH, SUBSET_INT,
+    SUBSET_STR, SUM, UPPER_BOUND, XOR,
+};
 use dk_template::{Premise, RowId};
+
+// The roles of a conclusion.
+const FIRST: u8 = 0;
+
+const SECOND: u8 = 1;
+
+const THIRD: u8 = 2;
+
+// What is written for a role that a row doesn't have.
+const NO_ROLE: u8 = 0;
 
 /// A rule: its conclusion, and its premises over the roles of the conclusion.
 pub struct Rule {
@@ -21,18 +38,18 @@ macro_rules! rule {
     };
 }
 
-// The row holds over the roles; a role that the row doesn't have is written as 0.
+// The row holds over the roles.
 macro_rules! holds {
     ($row:expr, $a:expr) => {
         Premise::Holds {
             row: RowId($row),
-            roles: [$a, 0, 0],
+            roles: [$a, NO_ROLE, NO_ROLE],
         }
     };
     ($row:expr, $a:expr, $b:expr) => {
         Premise::Holds {
             row: RowId($row),
-            roles: [$a, $b, 0],
+            roles: [$a, $b, NO_ROLE],
         }
     };
     ($row:expr, $a:expr, $b:expr, $c:expr) => {
@@ -71,66 +88,135 @@ macro_rules! only {
 
 // The rules, by their conclusions. The roles are x, y, or s and t, or s and x, and in the rows 24 to 34 they are z, x, y.
 const RULES: &[Rule] = &[
-    rule!(4, [least!(2, 0, 1)]), // x != 0: x >= 1
-    rule!(4, [greatest!(3, 0, -1)]), // x != 0: x <= -1
-    rule!(12, [holds!(13, 0, 1)]), // x != y: x < y
-    rule!(12, [holds!(13, 1, 0)]), // x != y: y < x
-    rule!(14, [holds!(13, 0, 1)]), // x <= y: x < y
-    rule!(14, [holds!(11, 0, 1)]), // x <= y: x == y
-    rule!(16, [holds!(11, 0, 1), holds!(4, 1)]), // x % y == 0: x == y and y != 0
-    rule!(16, [only!(1, 1)]), // x % y == 0: y is only 1
-    rule!(16, [only!(1, -1)]), // x % y == 0: y is only -1
-    rule!(16, [only!(0, 0), holds!(4, 1)]), // x % y == 0: x is only 0 and y != 0
-    rule!(17, [holds!(11, 0, 1), least!(2, 0, 0), greatest!(3, 0, 1)]), // x == y * y: x == y and x >= 0 and x <= 1
-    rule!(24, [holds!(11, 0, 1), only!(2, 0)]), // z == x + y: z == x and y is only 0
-    rule!(24, [holds!(11, 0, 2), only!(1, 0)]), // z == x + y: z == y and x is only 0
-    rule!(25, [holds!(24, 1, 0, 2)]), // z == x - y: x == z + y
-    rule!(26, [holds!(11, 0, 1), only!(2, 1)]), // z == x * y: z == x and y is only 1
-    rule!(26, [holds!(11, 0, 2), only!(1, 1)]), // z == x * y: z == y and x is only 1
-    rule!(26, [only!(0, 0), only!(1, 0)]), // z == x * y: z is only 0 and x is only 0
-    rule!(26, [only!(0, 0), only!(2, 0)]), // z == x * y: z is only 0 and y is only 0
-    rule!(27, [holds!(11, 0, 1), holds!(14, 1, 2)]), // z == min(x, y): z == x and x <= y
-    rule!(27, [holds!(11, 0, 2), holds!(14, 2, 1)]), // z == min(x, y): z == y and y <= x
-    rule!(28, [holds!(11, 0, 1), holds!(14, 2, 1)]), // z == max(x, y): z == x and y <= x
-    rule!(28, [holds!(11, 0, 2), holds!(14, 1, 2)]), // z == max(x, y): z == y and x <= y
-    rule!(29, [holds!(11, 0, 1), only!(2, 1)]), // z == x / y: z == x and y is only 1
-    rule!(29, [only!(0, 0), only!(1, 0), holds!(4, 2)]), // z == x / y: z is only 0 and x is only 0 and y != 0
-    rule!(29, [only!(0, 1), holds!(11, 1, 2), holds!(4, 2)]), // z == x / y: z is only 1 and x == y and y != 0
-    rule!(29, [only!(0, 0), least!(2, 1, 0), holds!(13, 1, 2)]), // z == x / y: z is only 0 and x >= 0 and x < y
-    rule!(30, [only!(0, 0), holds!(16, 1, 2)]), // z == x % y: z is only 0 and x % y == 0
-    rule!(30, [holds!(11, 0, 1), least!(2, 1, 0), holds!(13, 1, 2)]), // z == x % y: z == x and x >= 0 and x < y
-    rule!(31, [holds!(11, 0, 1), holds!(11, 1, 2)]), // z == x & y: z == x and x == y
-    rule!(31, [only!(0, 0), only!(1, 0)]), // z == x & y: z is only 0 and x is only 0
-    rule!(31, [only!(0, 0), only!(2, 0)]), // z == x & y: z is only 0 and y is only 0
-    rule!(31, [holds!(11, 0, 1), only!(2, -1)]), // z == x & y: z == x and y is only -1
-    rule!(31, [holds!(11, 0, 2), only!(1, -1)]), // z == x & y: z == y and x is only -1
-    rule!(32, [holds!(11, 0, 1), holds!(11, 1, 2)]), // z == x | y: z == x and x == y
-    rule!(32, [holds!(11, 0, 1), only!(2, 0)]), // z == x | y: z == x and y is only 0
-    rule!(32, [holds!(11, 0, 2), only!(1, 0)]), // z == x | y: z == y and x is only 0
-    rule!(33, [holds!(11, 0, 1), only!(2, 0)]), // z == x ^ y: z == x and y is only 0
-    rule!(33, [holds!(11, 0, 2), only!(1, 0)]), // z == x ^ y: z == y and x is only 0
-    rule!(33, [only!(0, 0), holds!(11, 1, 2)]), // z == x ^ y: z is only 0 and x == y
-    rule!(34, [only!(0, 1), only!(1, 1)]), // z == gcd(x, y): z is only 1 and x is only 1
-    rule!(34, [only!(0, 1), only!(2, 1)]), // z == gcd(x, y): z is only 1 and y is only 1
-    rule!(34, [holds!(11, 0, 1), least!(2, 1, 1), holds!(16, 2, 1)]), // z == gcd(x, y): z == x and x >= 1 and y % x == 0
-    rule!(34, [holds!(11, 0, 2), least!(2, 2, 1), holds!(16, 1, 2)]), // z == gcd(x, y): z == y and y >= 1 and x % y == 0
-    rule!(38, [least!(36, 0, 1)]), // s elements != 0: s elements >= 1
-    rule!(38, [greatest!(37, 0, -1)]), // s elements != 0: s elements <= -1
-    rule!(40, [holds!(39, 0)]), // s sorted by <=: s sorted by <
-    rule!(40, [holds!(43, 0)]), // s sorted by <=: s elements are equal
-    rule!(42, [holds!(41, 0)]), // s sorted by >=: s sorted by >
-    rule!(42, [holds!(43, 0)]), // s sorted by >=: s elements are equal
-    rule!(54, [holds!(53, 0, 1)]), // s elements <= x: s elements < x
-    rule!(54, [holds!(52, 0, 1)]), // s elements <= x: s elements == x
-    rule!(56, [holds!(55, 0, 1)]), // s elements >= x: s elements > x
-    rule!(56, [holds!(52, 0, 1)]), // s elements >= x: s elements == x
-    rule!(62, [holds!(61, 0, 1)]), // s <= t, pair by pair: s < t, pair by pair
-    rule!(62, [holds!(57, 0, 1)]), // s <= t, pair by pair: s == t
-    rule!(63, [holds!(57, 0, 1)]), // s is a subset of t (numbers): s == t
-    rule!(63, [holds!(66, 0, 1)]), // s is a subset of t (numbers): s is the reverse of t
-    rule!(64, [holds!(59, 0, 1)]), // s is a subset of t (hash codes): s == t
-    rule!(65, [holds!(60, 0, 1)]), // s is a subset of t (strings): s == t
-    rule!(66, [holds!(57, 0, 1), holds!(43, 0)]), // s is the reverse of t: s == t and s elements are equal
+    rule!(NON_ZERO, [least!(LOWER_BOUND, FIRST, 1)]), // x != 0: x >= 1
+    rule!(NON_ZERO, [greatest!(UPPER_BOUND, FIRST, -1)]), // x != 0: x <= -1
+    rule!(NE_INT, [holds!(LT, FIRST, SECOND)]), // x != y: x < y
+    rule!(NE_INT, [holds!(LT, SECOND, FIRST)]), // x != y: y < x
+    rule!(LE, [holds!(LT, FIRST, SECOND)]), // x <= y: x < y
+    rule!(LE, [holds!(EQ_INT, FIRST, SECOND)]), // x <= y: x == y
+    rule!(
+        DIVIDES,
+        [holds!(EQ_INT, FIRST, SECOND), holds!(NON_ZERO, SECOND)]
+    ), // x % y == 0: x == y and y != 0
+    rule!(DIVIDES, [only!(SECOND, 1)]), // x % y == 0: y is only 1
+    rule!(DIVIDES, [only!(SECOND, -1)]), // x % y == 0: y is only -1
+    rule!(DIVIDES, [only!(FIRST, 0), holds!(NON_ZERO, SECOND)]), // x % y == 0: x is only 0 and y != 0
+    rule!(
+        SQUARE,
+        [
+            holds!(EQ_INT, FIRST, SECOND),
+            least!(LOWER_BOUND, FIRST, 0),
+            greatest!(UPPER_BOUND, FIRST, 1)
+        ]
+    ), // x == y * y: x == y and x >= 0 and x <= 1
+    rule!(SUM, [holds!(EQ_INT, FIRST, SECOND), only!(THIRD, 0)]), // z == x + y: z == x and y is only 0
+    rule!(SUM, [holds!(EQ_INT, FIRST, THIRD), only!(SECOND, 0)]), // z == x + y: z == y and x is only 0
+    rule!(DIFFERENCE, [holds!(SUM, SECOND, FIRST, THIRD)]), // z == x - y: x == z + y
+    rule!(PRODUCT, [holds!(EQ_INT, FIRST, SECOND), only!(THIRD, 1)]), // z == x * y: z == x and y is only 1
+    rule!(PRODUCT, [holds!(EQ_INT, FIRST, THIRD), only!(SECOND, 1)]), // z == x * y: z == y and x is only 1
+    rule!(PRODUCT, [only!(FIRST, 0), only!(SECOND, 0)]), // z == x * y: z is only 0 and x is only 0
+    rule!(PRODUCT, [only!(FIRST, 0), only!(THIRD, 0)]), // z == x * y: z is only 0 and y is only 0
+    rule!(
+        MINIMUM,
+        [holds!(EQ_INT, FIRST, SECOND), holds!(LE, SECOND, THIRD)]
+    ), // z == min(x, y): z == x and x <= y
+    rule!(
+        MINIMUM,
+        [holds!(EQ_INT, FIRST, THIRD), holds!(LE, THIRD, SECOND)]
+    ), // z == min(x, y): z == y and y <= x
+    rule!(
+        MAXIMUM,
+        [holds!(EQ_INT, FIRST, SECOND), holds!(LE, THIRD, SECOND)]
+    ), // z == max(x, y): z == x and y <= x
+    rule!(
+        MAXIMUM,
+        [holds!(EQ_INT, FIRST, THIRD), holds!(LE, SECOND, THIRD)]
+    ), // z == max(x, y): z == y and x <= y
+    rule!(QUOTIENT, [holds!(EQ_INT, FIRST, SECOND), only!(THIRD, 1)]), // z == x / y: z == x and y is only 1
+    rule!(
+        QUOTIENT,
+        [only!(FIRST, 0), only!(SECOND, 0), holds!(NON_ZERO, THIRD)]
+    ), // z == x / y: z is only 0 and x is only 0 and y != 0
+    rule!(
+        QUOTIENT,
+        [
+            only!(FIRST, 1),
+            holds!(EQ_INT, SECOND, THIRD),
+            holds!(NON_ZERO, THIRD)
+        ]
+    ), // z == x / y: z is only 1 and x == y and y != 0
+    rule!(
+        QUOTIENT,
+        [
+            only!(FIRST, 0),
+            least!(LOWER_BOUND, SECOND, 0),
+            holds!(LT, SECOND, THIRD)
+        ]
+    ), // z == x / y: z is only 0 and x >= 0 and x < y
+    rule!(REMAINDER, [only!(FIRST, 0), holds!(DIVIDES, SECOND, THIRD)]), // z == x % y: z is only 0 and x % y == 0
+    rule!(
+        REMAINDER,
+        [
+            holds!(EQ_INT, FIRST, SECOND),
+            least!(LOWER_BOUND, SECOND, 0),
+            holds!(LT, SECOND, THIRD)
+        ]
+    ), // z == x % y: z == x and x >= 0 and x < y
+    rule!(
+        AND,
+        [holds!(EQ_INT, FIRST, SECOND), holds!(EQ_INT, SECOND, THIRD)]
+    ), // z == x & y: z == x and x == y
+    rule!(AND, [only!(FIRST, 0), only!(SECOND, 0)]), // z == x & y: z is only 0 and x is only 0
+    rule!(AND, [only!(FIRST, 0), only!(THIRD, 0)]), // z == x & y: z is only 0 and y is only 0
+    rule!(AND, [holds!(EQ_INT, FIRST, SECOND), only!(THIRD, -1)]), // z == x & y: z == x and y is only -1
+    rule!(AND, [holds!(EQ_INT, FIRST, THIRD), only!(SECOND, -1)]), // z == x & y: z == y and x is only -1
+    rule!(
+        OR,
+        [holds!(EQ_INT, FIRST, SECOND), holds!(EQ_INT, SECOND, THIRD)]
+    ), // z == x | y: z == x and x == y
+    rule!(OR, [holds!(EQ_INT, FIRST, SECOND), only!(THIRD, 0)]), // z == x | y: z == x and y is only 0
+    rule!(OR, [holds!(EQ_INT, FIRST, THIRD), only!(SECOND, 0)]), // z == x | y: z == y and x is only 0
+    rule!(XOR, [holds!(EQ_INT, FIRST, SECOND), only!(THIRD, 0)]), // z == x ^ y: z == x and y is only 0
+    rule!(XOR, [holds!(EQ_INT, FIRST, THIRD), only!(SECOND, 0)]), // z == x ^ y: z == y and x is only 0
+    rule!(XOR, [only!(FIRST, 0), holds!(EQ_INT, SECOND, THIRD)]), // z == x ^ y: z is only 0 and x == y
+    rule!(GCD, [only!(FIRST, 1), only!(SECOND, 1)]), // z == gcd(x, y): z is only 1 and x is only 1
+    rule!(GCD, [only!(FIRST, 1), only!(THIRD, 1)]), // z == gcd(x, y): z is only 1 and y is only 1
+    rule!(
+        GCD,
+        [
+            holds!(EQ_INT, FIRST, SECOND),
+            least!(LOWER_BOUND, SECOND, 1),
+            holds!(DIVIDES, THIRD, SECOND)
+        ]
+    ), // z == gcd(x, y): z == x and x >= 1 and y % x == 0
+    rule!(
+        GCD,
+        [
+            holds!(EQ_INT, FIRST, THIRD),
+            least!(LOWER_BOUND, THIRD, 1),
+            holds!(DIVIDES, SECOND, THIRD)
+        ]
+    ), // z == gcd(x, y): z == y and y >= 1 and x % y == 0
+    rule!(ELT_NON_ZERO, [least!(ELT_LOWER, FIRST, 1)]), // s elements != 0: s elements >= 1
+    rule!(ELT_NON_ZERO, [greatest!(ELT_UPPER, FIRST, -1)]), // s elements != 0: s elements <= -1
+    rule!(SORTED_LE, [holds!(SORTED_LT, FIRST)]), // s sorted by <=: s sorted by <
+    rule!(SORTED_LE, [holds!(ELTS_EQUAL, FIRST)]), // s sorted by <=: s elements are equal
+    rule!(SORTED_GE, [holds!(SORTED_GT, FIRST)]), // s sorted by >=: s sorted by >
+    rule!(SORTED_GE, [holds!(ELTS_EQUAL, FIRST)]), // s sorted by >=: s elements are equal
+    rule!(ELT_LE, [holds!(ELT_LT, FIRST, SECOND)]), // s elements <= x: s elements < x
+    rule!(ELT_LE, [holds!(ELT_EQ, FIRST, SECOND)]), // s elements <= x: s elements == x
+    rule!(ELT_GE, [holds!(ELT_GT, FIRST, SECOND)]), // s elements >= x: s elements > x
+    rule!(ELT_GE, [holds!(ELT_EQ, FIRST, SECOND)]), // s elements >= x: s elements == x
+    rule!(PAIR_LE, [holds!(PAIR_LT, FIRST, SECOND)]), // s <= t, pair by pair: s < t, pair by pair
+    rule!(PAIR_LE, [holds!(EQ_INT_SEQ, FIRST, SECOND)]), // s <= t, pair by pair: s == t
+    rule!(SUBSET_INT, [holds!(EQ_INT_SEQ, FIRST, SECOND)]), // s is a subset of t (numbers): s == t
+    rule!(SUBSET_INT, [holds!(REVERSE, FIRST, SECOND)]), // s is a subset of t (numbers): s is the reverse of t
+    rule!(SUBSET_HASH, [holds!(EQ_HASH_SEQ, FIRST, SECOND)]), // s is a subset of t (hash codes): s == t
+    rule!(SUBSET_STR, [holds!(EQ_STR_SEQ, FIRST, SECOND)]), // s is a subset of t (strings): s == t
+    rule!(
+        REVERSE,
+        [holds!(EQ_INT_SEQ, FIRST, SECOND), holds!(ELTS_EQUAL, FIRST)]
+    ), // s is the reverse of t: s == t and s elements are equal
 ];
 
 /// The rules.

@@ -13,6 +13,7 @@ mod joining;
 pub mod laws;
 mod properness;
 mod row;
+pub mod rows;
 mod templates;
 mod tuple;
 
