@@ -9,7 +9,9 @@ use Rattle.dk_template.specs.declared.grammar.RowId.{RowId}
 
 -- the rows whose states are texts, or that ask more of a sequence of strings than whether two are the same
 abbrev pub wants_memory : RowId → Bool
-wants_memory row = list_any (λ r. row.0 == r) (9 ∷ 47 ∷ 48 ∷ 51 ∷ 65 ∷ [])
+wants_memory row =
+    list_any (λ r. row.0 == r)
+    (number.one_of_str ∷ number.elt_one_of_str ∷ number.elt_non_null_str ∷ number.member_str ∷ number.subset_str ∷ [])
 
 -- the row that asks whether two sequences of strings are the same
 abbrev pub same_texts_row : RowId

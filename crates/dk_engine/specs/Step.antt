@@ -144,7 +144,7 @@ abbrev pub asks_elements : Rule → Bool
 asks_elements r = list_any (λ p. is_of_elements (row_of p)) r.1
 
 -- A rule can begin to suppress the slot: it was Empty, or its row has a rule that asks for the least or the greatest element. That
--- is row 38 alone.
+-- is EltNonZero alone.
 abbrev pub can_close : Slot → Bool
 can_close slot = is_empty_state slot.state || list_any (λ (r : Rule). r.0.0 == slot.row.0 && asks_elements r) rules
 

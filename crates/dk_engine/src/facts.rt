@@ -24,7 +24,7 @@ pub(crate) struct Range {
     pub(crate) greatest: i64,
 }
 
-/// A row of a comparison, one of rows 11 to 14, and two variables of whose numbers it is so, or one of which is missing.
+/// A row of a comparison, one from EqInt to Le, and two variables of whose numbers it is so, or one of which is missing.
 #[derive(Clone, Copy, Debug)]
 pub(crate) struct Compared {
     pub(crate) row: RowId,

@@ -186,7 +186,7 @@ pub(crate) enum Seen {
     Neither,
 }
 
-// What a point makes of a slot of row 67, which is a plane or a stretch of a line.
+// What a point makes of a slot of LinearTernary, which is a plane or a stretch of a line.
 #[inline(always)]
 fn seen_at(slot: &Slot, growth: Growth) -> Seen
     requires row { slot.now.row.0 ≡ number.linear_ternary }
@@ -214,7 +214,7 @@ fn are_present(sample: &[View<'_>], u: VarId, v: VarId, w: VarId) -> bool
         && (is_present(value_at(sample, v)) && is_present(value_at(sample, w)))
 }
 
-// What a sample makes of a slot of row 67 over three leaders. It stays as it is where one of them is missing.
+// What a sample makes of a slot of LinearTernary over three leaders. It stays as it is where one of them is missing.
 #[inline(always)]
 fn seen_by(slot: &Slot, sample: &[View<'_>], place: usize, u: VarId, v: VarId, w: VarId) -> Seen
     requires row { slot.now.row.0 ≡ number.linear_ternary }

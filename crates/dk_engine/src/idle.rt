@@ -170,7 +170,7 @@ fn are_near_each(ranges: &[Range], places: &[usize], u: VarId, v: VarId, w: VarI
         && (is_known_near(ranges, places, v) && is_known_near(ranges, places, w))
 }
 
-// Whether a slot of row 67 over three leaders, a plane, is seen to be idle.
+// Whether a slot of LinearTernary over three leaders, a plane, is seen to be idle.
 fn is_idle_by(watch: &Watch, places: &[usize], slot: &Slot, u: VarId, v: VarId, w: VarId) -> bool
     requires row { slot.now.row.0 ≡ number.linear_ternary }
     requires leaders { slot.now.leaders ≡ u ∷ v ∷ w ∷ [] }
@@ -287,7 +287,7 @@ fn is_driven_stretch(
     }
 }
 
-// Whether a slot of row 67 over three leaders, a stretch, is seen to be idle.
+// Whether a slot of LinearTernary over three leaders, a stretch, is seen to be idle.
 fn is_idle_stretch(
     watch: &Watch,
     places: &[usize],
@@ -327,7 +327,7 @@ fn is_idle_straight(ranges: &[Range], places: &[usize], u: VarId, v: VarId, stat
     }
 }
 
-// Whether a slot of row 15 over two leaders is seen to be idle.
+// Whether a slot of Linear over two leaders is seen to be idle.
 fn is_idle_line(watch: &Watch, places: &Places, slot: &Slot, u: VarId, v: VarId) -> bool
     requires row { slot.now.row.0 ≡ number.linear }
     requires leaders { slot.now.leaders ≡ u ∷ v ∷ [] }
@@ -342,7 +342,7 @@ fn is_idle_line(watch: &Watch, places: &Places, slot: &Slot, u: VarId, v: VarId)
     ) && are_near_each(watch.ranges.as_slice(), places.ranges.as_slice(), u, v, v)
 }
 
-// Whether a slot of row 67 over three leaders is seen to be idle.
+// Whether a slot of LinearTernary over three leaders is seen to be idle.
 fn is_idle_of_three(
     watch: &Watch,
     places: &Places,
@@ -387,7 +387,7 @@ fn is_idle_greatest(watch: &Watch, places: &Places, v: VarId, state: &State) -> 
     }
 }
 
-// Whether a slot of row 2 or 3 over a leader is seen to be idle.
+// Whether a slot of LowerBound or UpperBound over a leader is seen to be idle.
 fn is_idle_bound(watch: &Watch, places: &Places, slot: &Slot, v: VarId) -> bool
     requires { slot.now.leaders ≡ v ∷ [] }
     ensures { IsTrue result → IsIdle watch.now slot.now }

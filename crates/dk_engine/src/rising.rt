@@ -20,7 +20,7 @@ fn raise(state: &State, x: i64) -> Option<State>
     }
 }
 
-// The state of a slot of row 3 over a leader with a sample, if both have a number.
+// The state of a slot of UpperBound over a leader with a sample, if both have a number.
 fn raise_by(slot: &Slot, sample: &[View<'_>], v: VarId) -> Option<State>
     requires row { slot.now.row.0 ≡ number.upper_bound }
     requires leaders { slot.now.leaders ≡ v ∷ [] }
@@ -32,7 +32,7 @@ fn raise_by(slot: &Slot, sample: &[View<'_>], v: VarId) -> Option<State>
     }
 }
 
-// The state of a slot of row 3 with a sample, if both have a number.
+// The state of a slot of UpperBound with a sample, if both have a number.
 fn raise_with(slot: &Slot, sample: &[View<'_>]) -> Option<State>
     requires { slot.now.row.0 ≡ number.upper_bound }
     ensures { IfSome result (λ s. s ≡ with_sample slot.now.row slot.now.leaders (values_of sample.now) slot.now.state) }

@@ -33,7 +33,7 @@ fn keeps_greatest(state: &State, x: i64) -> bool
     }
 }
 
-// Whether a sample is seen to leave a slot of row 2 over a leader as it is: it doesn't change the least value, or the number is missing.
+// Whether a sample is seen to leave a slot of LowerBound over a leader as it is: it doesn't change the least value, or the number is missing.
 #[inline(always)]
 fn stays_least(slot: &Slot, sample: &[View<'_>], v: VarId) -> bool
     requires row { slot.now.row.0 ≡ number.lower_bound }
@@ -47,7 +47,7 @@ fn stays_least(slot: &Slot, sample: &[View<'_>], v: VarId) -> bool
     }
 }
 
-// The same of a slot of row 3.
+// The same of a slot of UpperBound.
 #[inline(always)]
 fn stays_greatest(slot: &Slot, sample: &[View<'_>], v: VarId) -> bool
     requires row { slot.now.row.0 ≡ number.upper_bound }
@@ -61,7 +61,7 @@ fn stays_greatest(slot: &Slot, sample: &[View<'_>], v: VarId) -> bool
     }
 }
 
-/// Whether what a row of a comparison, one of rows 11 to 14, says is so of two numbers.
+/// Whether what a row of a comparison, one from EqInt to Le, says is so of two numbers.
 #[inline(always)]
 pub(crate) fn is_so(row: RowId, x: i64, y: i64) -> bool
     ensures { result ≡ compares row.0 x y }

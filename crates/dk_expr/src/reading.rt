@@ -23,7 +23,9 @@ use crate::states::state_of;
 use crate::walking::behind_all;
 use dk_base::{List, NoMemory, VarId, VarInfo};
 use dk_print::{instance, parts_of};
-use dk_template::{RowId, State, Takes, Tuple, admits, fits, is_written, proper, template_at};
+use dk_template::{
+    RowId, State, Takes, Tuple, admits, fits, is_written, proper, rows, template_at,
+};
 use std::alloc::Global;
 
 // Whether the variable is none of the others.
@@ -239,7 +241,7 @@ pub fn read_by(
     ensures read { IfOk result (λ read. IfSome read (λ a. IsRead vars.now text.now a)) }
     ensures none { IfOk result (λ read. IfNone read (HasNone vars.now text.now)) }
 {
-    for row in 1..69 {
+    for row in rows::ONE_OF_INT..=rows::PAIR_OFFSET {
         if let Some(first) = first_of(alloc, vars, names, text, RowId(row))? {
             return Ok(Some(as_told(first)));
         }

@@ -89,11 +89,15 @@ first_like here v = unwrap_or (find (are_alike here v) (all_vars here.infos)) v
 -- the rows that say x == y or s == t
 abbrev pub equalities : List ℕ
 equalities =
-    number.eq_int ∷ number.eq_bool ∷ number.eq_hash ∷ number.eq_str ∷ number.eq_int_seq ∷ number.eq_bool_seq ∷ number.eq_hash_seq ∷ number.eq_str_seq ∷ []
+    number.eq_int ∷ number.eq_bool ∷ number.eq_hash ∷ number.eq_str ∷ number.eq_int_seq
+    ∷ number.eq_bool_seq ∷ number.eq_hash_seq ∷ number.eq_str_seq ∷ []
+
+abbrev pub is_equality : RowId → Bool
+is_equality r = is_one_of equalities r
 
 -- an equality of the first variable with one that is like it
 abbrev pub tells_member_by : (VarId → VarId) → RowId → List VarId → Bool
-tells_member_by first r (v ∷ w ∷ []) = is_one_of equalities r && (first w).0 == v.0
+tells_member_by first r (v ∷ w ∷ []) = is_equality r && (first w).0 == v.0
 tells_member_by first r _ = false
 
 abbrev pub is_further_member_by : (VarId → VarId) → RowId → List VarId → Bool
@@ -111,7 +115,8 @@ is_further_member here r vars = is_further_member_by (first_like here) r vars
 -- they aren't 0 or null; x == y says more than a line.
 abbrev pub sharper_than : RowId → Option RowId
 sharper_than r =
-    if is_one_of (number.lower_bound ∷ number.upper_bound ∷ number.non_zero ∷ number.modulus ∷ []) r then Some (row_of_number number.one_of_int)
+    if is_one_of (number.lower_bound ∷ number.upper_bound ∷ number.non_zero ∷ number.modulus ∷ []) r
+    then Some (row_of_number number.one_of_int)
     else if is_one_of (number.non_null_hash ∷ []) r then Some (row_of_number number.one_of_hash)
     else if is_one_of (number.non_null_str ∷ []) r then Some (row_of_number number.one_of_str)
     else if is_one_of (number.linear ∷ []) r then Some (row_of_number number.eq_int)

@@ -1,6 +1,6 @@
 // Whether an instance follows from others that hold.
 ghost use Rattle.std.specs.Prelude.{◌≡◌, IfOk, IsTrue, OnErr};
-ghost use Rattle.dk_filters.specs.Facts.{has_sharper, is_implied, is_one_of, is_sum_plane, sharper_than, sum_of};
+ghost use Rattle.dk_filters.specs.Facts.{has_sharper, is_equality, is_implied, is_one_of, is_sum_plane, sharper_than, sum_of};
 ghost use Rattle.dk_filters.specs.Parents.{answers_by};
 ghost use Rattle.dk_template.specs.Admitted.{admits};
 ghost use Rattle.dk_template.specs.Premises.{IsUsable, premise_fits};
@@ -11,11 +11,30 @@ use dk_base::{NoMemory, VarId};
 use dk_suppress::suppressed;
 use dk_template::{Answers, Premise, RowId, fits, rows};
 
-/// Whether the row is one of these.
-pub(crate) fn is_one_of(numbers: &[u8], row: RowId) -> bool
+// Whether the row is one of these.
+fn is_one_of(numbers: &[u8], row: RowId) -> bool
     ensures { result ≡ is_one_of numbers.now row }
 {
     numbers.iter().any(|n| row.0 == *n)
+}
+
+/// Whether the row says that two variables are the same.
+pub fn is_equality(row: RowId) -> bool
+    ensures { result ≡ is_equality row }
+{
+    is_one_of(
+        &[
+            rows::EQ_INT,
+            rows::EQ_BOOL,
+            rows::EQ_HASH,
+            rows::EQ_STR,
+            rows::EQ_INT_SEQ,
+            rows::EQ_BOOL_SEQ,
+            rows::EQ_HASH_SEQ,
+            rows::EQ_STR_SEQ,
+        ],
+        row,
+    )
 }
 
 // The row that says more than this one over the same variables.

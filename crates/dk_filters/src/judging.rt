@@ -10,11 +10,11 @@ ghost use Rattle.dk_template.specs.Premises.{MayWantMemory as AnswerMayWantMemor
 ghost use Rattle.dk_template.specs.Templates.{IsRowOf};
 
 use crate::comparing::is_incomparable;
-use crate::implied::{is_implied, is_one_of};
+use crate::implied::{is_equality, is_implied};
 use crate::parents::Sought;
 use crate::{Facts, ParentView, PointFacts};
 use dk_base::{List, NoMemory, VarId, VarInfo};
-use dk_template::{Answers, RowId, State, rows};
+use dk_template::{Answers, RowId, State};
 use std::alloc::Global;
 
 // The first variable that is like it.
@@ -32,19 +32,7 @@ fn tells_member(firsts: &[VarId], row: RowId, tuple: &[VarId]) -> bool
     ensures { result ≡ tells_member_by (first_in firsts.now) row tuple.now }
 {
     match tuple {
-        [v, w] => is_one_of(
-            &[
-                rows::EQ_INT,
-                rows::EQ_BOOL,
-                rows::EQ_HASH,
-                rows::EQ_STR,
-                rows::EQ_INT_SEQ,
-                rows::EQ_BOOL_SEQ,
-                rows::EQ_HASH_SEQ,
-                rows::EQ_STR_SEQ,
-            ],
-            row,
-        ) && first_of(firsts, *w).0 == v.0,
+        [v, w] => is_equality(row) && first_of(firsts, *w).0 == v.0,
         _ => false,
     }
 }

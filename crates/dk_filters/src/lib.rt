@@ -15,5 +15,6 @@ pub use candidate::Candidate;
 pub use facts::Facts;
 pub use filter::{Filter, kept};
 pub use found::PointFacts;
+pub use implied::is_equality;
 pub use judging::{judge, judge_with};
 pub use parents::ParentView;

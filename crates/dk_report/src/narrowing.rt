@@ -17,12 +17,12 @@ ghost use Rattle.dk_template.specs.Admitted.{suits};
 ghost use Rattle.dk_template.specs.Templates.{IsRow, IsRowOf};
 
 use crate::asking::{Asking, are_distinct};
-use crate::sweeping::{Standing, is_equality, suits};
+use crate::sweeping::{Standing, suits};
 use dk_base::{List, NoMemory, Value, VarId, VarInfo};
 use dk_classes::Classes;
 use dk_constants::Constants;
 use dk_engine::{Engine, Slot};
-use dk_filters::Candidate;
+use dk_filters::{Candidate, is_equality};
 use dk_hierarchy::Way;
 use dk_template::{Role, RowId, Takes, fits, info, template_at};
 use std::alloc::Global;

@@ -4,7 +4,7 @@ ghost use Rattle.dk_filters.specs.Candidates.{candidates_kept, candidates_of};
 ghost use Rattle.dk_filters.specs.Found.{first_in, one_value_in};
 ghost use Rattle.dk_report.specs.Keeping.{keeps};
 ghost use Rattle.dk_report.specs.Asked.{AreStanding, CanBeAsked, candidates_equal, candidates_over, candidates_standing, has_enough, here_of, listed_candidates_by, vars_for_row, vars_with_enough, views_of};
-ghost use Rattle.dk_report.specs.Listing.{is_equality, may_equal, may_lead, may_stand};
+ghost use Rattle.dk_report.specs.Listing.{may_equal, may_lead, may_stand};
 ghost use Rattle.dk_report.specs.Sweeps.{behind, equal_pairs, equals, firsts, over_takes, pairs, seconds, suited_vars, thirds, triples};
 ghost use Rattle.dk_template.specs.Admitted.{suits};
 ghost use Rattle.dk_template.specs.Templates.{IsRow, IsRowOf};
@@ -13,7 +13,7 @@ use crate::Options;
 use crate::asking::Asking;
 use crate::narrowing::has;
 use dk_base::{Form, List, NoMemory, VarId, VarInfo};
-use dk_filters::{Candidate, PointFacts};
+use dk_filters::{Candidate, PointFacts, is_equality};
 use dk_template::{Answers, Role, RowId, Takes, info, template_at};
 use std::alloc::Global;
 
@@ -46,13 +46,6 @@ fn suited_vars(
         }
     }
     Ok(list)
-}
-
-/// Whether the row says that two variables are the same.
-pub(crate) fn is_equality(row: RowId) -> bool
-    ensures { result ≡ is_equality row }
-{
-    [11, 18, 20, 22, 57, 58, 59, 60].iter().any(|n| row.0 == *n)
 }
 
 // The first variable that is like it.

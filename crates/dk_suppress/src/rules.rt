@@ -86,7 +86,7 @@ macro_rules! only {
     };
 }
 
-// The rules, by their conclusions. The roles are x, y, or s and t, or s and x, and in the rows 24 to 34 they are z, x, y.
+// The rules, by their conclusions. The roles are x, y, or s and t, or s and x, and from Sum to Gcd they are z, x, y.
 const RULES: &[Rule] = &[
     rule!(NON_ZERO, [least!(LOWER_BOUND, FIRST, 1)]), // x != 0: x >= 1
     rule!(NON_ZERO, [greatest!(UPPER_BOUND, FIRST, -1)]), // x != 0: x <= -1
@@ -246,7 +246,7 @@ const STARTS: &[usize] = &[
     53, 53, 53, 55, 57, 58, 59, 60, // 60 to 67
 ];
 
-// Where the rules of the rows 0 to 66 start in the table, and where those of row 66 end.
+// Where the rules of each number below that of planes start in the table, and where the last ones end.
 fn starts() -> &'static [usize]
     ensures { result.now ≡ starts }
 {
@@ -272,25 +272,28 @@ macro_rules! asked {
     };
 }
 
-// The premises about each row, from 0 on, of those that ask the same the first; the last row that has one is row 66.
+// The premises about each row, from 0 on, of those that ask the same the first; the last row that has one is Reverse.
 const ASKED: &[&[Premise]] = &[
     asked!(), // 0
-    asked!(only!(1, 1), only!(1, -1), only!(0, 0)), // 1 OneOfInt
-    asked!(least!(2, 0, 1), least!(2, 0, 0)), // 2 LowerBound
-    asked!(greatest!(3, 0, -1), greatest!(3, 0, 1)), // 3 UpperBound
-    asked!(holds!(4, 1)), // 4 NonZero
+    asked!(only!(SECOND, 1), only!(SECOND, -1), only!(FIRST, 0)), // 1 OneOfInt
+    asked!(least!(LOWER_BOUND, FIRST, 1), least!(LOWER_BOUND, FIRST, 0)), // 2 LowerBound
+    asked!(
+        greatest!(UPPER_BOUND, FIRST, -1),
+        greatest!(UPPER_BOUND, FIRST, 1)
+    ), // 3 UpperBound
+    asked!(holds!(NON_ZERO, SECOND)), // 4 NonZero
     asked!(), // 5
     asked!(), // 6
     asked!(), // 7
     asked!(), // 8
     asked!(), // 9
     asked!(), // 10
-    asked!(holds!(11, 0, 1)), // 11 EqInt
+    asked!(holds!(EQ_INT, FIRST, SECOND)), // 11 EqInt
     asked!(), // 12
-    asked!(holds!(13, 0, 1)), // 13 Lt
-    asked!(holds!(14, 1, 2)), // 14 Le
+    asked!(holds!(LT, FIRST, SECOND)), // 13 Lt
+    asked!(holds!(LE, SECOND, THIRD)), // 14 Le
     asked!(), // 15
-    asked!(holds!(16, 1, 2)), // 16 Divides
+    asked!(holds!(DIVIDES, SECOND, THIRD)), // 16 Divides
     asked!(), // 17
     asked!(), // 18
     asked!(), // 19
@@ -298,7 +301,7 @@ const ASKED: &[&[Premise]] = &[
     asked!(), // 21
     asked!(), // 22
     asked!(), // 23
-    asked!(holds!(24, 1, 0, 2)), // 24 Sum
+    asked!(holds!(SUM, SECOND, FIRST, THIRD)), // 24 Sum
     asked!(), // 25
     asked!(), // 26
     asked!(), // 27
@@ -310,14 +313,14 @@ const ASKED: &[&[Premise]] = &[
     asked!(), // 33
     asked!(), // 34
     asked!(), // 35
-    asked!(least!(36, 0, 1)), // 36 EltLower
-    asked!(greatest!(37, 0, -1)), // 37 EltUpper
+    asked!(least!(ELT_LOWER, FIRST, 1)), // 36 EltLower
+    asked!(greatest!(ELT_UPPER, FIRST, -1)), // 37 EltUpper
     asked!(), // 38
-    asked!(holds!(39, 0)), // 39 SortedLt
+    asked!(holds!(SORTED_LT, FIRST)), // 39 SortedLt
     asked!(), // 40
-    asked!(holds!(41, 0)), // 41 SortedGt
+    asked!(holds!(SORTED_GT, FIRST)), // 41 SortedGt
     asked!(), // 42
-    asked!(holds!(43, 0)), // 43 EltsEqual
+    asked!(holds!(ELTS_EQUAL, FIRST)), // 43 EltsEqual
     asked!(), // 44
     asked!(), // 45
     asked!(), // 46
@@ -326,24 +329,24 @@ const ASKED: &[&[Premise]] = &[
     asked!(), // 49
     asked!(), // 50
     asked!(), // 51
-    asked!(holds!(52, 0, 1)), // 52 EltEq
-    asked!(holds!(53, 0, 1)), // 53 EltLt
+    asked!(holds!(ELT_EQ, FIRST, SECOND)), // 52 EltEq
+    asked!(holds!(ELT_LT, FIRST, SECOND)), // 53 EltLt
     asked!(), // 54
-    asked!(holds!(55, 0, 1)), // 55 EltGt
+    asked!(holds!(ELT_GT, FIRST, SECOND)), // 55 EltGt
     asked!(), // 56
-    asked!(holds!(57, 0, 1)), // 57 EqIntSeq
+    asked!(holds!(EQ_INT_SEQ, FIRST, SECOND)), // 57 EqIntSeq
     asked!(), // 58
-    asked!(holds!(59, 0, 1)), // 59 EqHashSeq
-    asked!(holds!(60, 0, 1)), // 60 EqStrSeq
-    asked!(holds!(61, 0, 1)), // 61 PairLt
+    asked!(holds!(EQ_HASH_SEQ, FIRST, SECOND)), // 59 EqHashSeq
+    asked!(holds!(EQ_STR_SEQ, FIRST, SECOND)), // 60 EqStrSeq
+    asked!(holds!(PAIR_LT, FIRST, SECOND)), // 61 PairLt
     asked!(), // 62
     asked!(), // 63
     asked!(), // 64
     asked!(), // 65
-    asked!(holds!(66, 0, 1)), // 66 Reverse
+    asked!(holds!(REVERSE, FIRST, SECOND)), // 66 Reverse
 ];
 
-// The premises about the rows 0 to 66.
+// The premises about each number below that of planes.
 fn asked_rows() -> &'static [&'static [Premise]]
     ensures { map (λ r. r.now) result.now ≡ asked_by_number }
 {

@@ -105,4 +105,6 @@ AreThere infos vars = All (λ (v : VarId). v.0 < length infos) vars
 -- The rows over strings whose answer may want memory: their states are texts, or their strings may have to be laid out anew. Whether
 -- two sequences of strings are the same is told without.
 abbrev pub MayWantMemory : RowId → Type 0
-MayWantMemory row = IsTrue (list_any (λ r. row.0 == r) (9 ∷ 47 ∷ 48 ∷ 51 ∷ 65 ∷ []))
+MayWantMemory row =
+    IsTrue (list_any (λ r. row.0 == r)
+    (number.one_of_str ∷ number.elt_one_of_str ∷ number.elt_non_null_str ∷ number.member_str ∷ number.subset_str ∷ []))
