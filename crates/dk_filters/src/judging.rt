@@ -17,8 +17,8 @@ use dk_base::{List, NoMemory, VarId, VarInfo};
 use dk_template::{Answers, RowId, State};
 use std::alloc::Global;
 
-// The first variable that is like it.
-fn first_of(firsts: &[VarId], v: VarId) -> VarId
+/// The first variable that is like it, of the list that says this of each.
+pub fn first_of(firsts: &[VarId], v: VarId) -> VarId
     ensures { result ≡ first_in firsts.now v }
 {
     match firsts.get(v.0 as usize) {
@@ -51,7 +51,8 @@ fn is_member(firsts: &[VarId], row: RowId, tuple: &[VarId]) -> bool
     !tells_member(firsts, row, tuple) && has_later(firsts, tuple)
 }
 
-fn has_one_value(one_values: &[bool], v: VarId) -> bool
+/// Whether the variable is a scalar with one value, by the list that says this of each.
+pub fn has_one_value(one_values: &[bool], v: VarId) -> bool
     ensures { result ≡ one_value_in one_values.now v }
 {
     match one_values.get(v.0 as usize) {

@@ -17,3 +17,4 @@ mod rows;
 pub use graph::Graph;
 pub use names::Names;
 pub use nodes::{Edge, Node};
+pub use notes::Notes;

@@ -1,41 +1,39 @@
-// Links that wait for their parents, by the parent's name.
+// Items, noted under names.
 ghost use Rattle.std.specs.Prelude.{◌≡◌, ◌∷◌, [], IfOk, OnOk};
 ghost use Rattle.dk_graph.specs.Notes.{noted_under, noted};
 
-use crate::nodes::Waiting;
 use dk_base::{List, NoMemory};
 use indexmap::IndexMap;
 use std::alloc::Global;
 use std::marker::Model;
 
-// Links, noted under the names of their parents.
+/// Items, noted under names.
 #[derive(Drop)]
-pub struct Notes {
+pub struct Notes<T> {
     alloc: Global,
-    table: IndexMap<Vec<u8>, List<Waiting>>,
+    table: IndexMap<Vec<u8>, List<T>>,
 }
 
-impl Model for Notes {
+impl<T> Model for Notes<T> {
     ghost use Rattle.std.specs.Prelude.{List, ℕ, map};
-    ghost use Rattle.dk_graph.specs.declared.nodes.Waiting.{Waiting};
 
-    ghost Value = { List (List ℕ × List Waiting) };
+    ghost Value = { List (List ℕ × List T) };
 
     ghost view = { λ n. map (λ e. (e.0.items, e.1)) n.table.entries };
 }
 
-// A list of one link.
-fn list_of_one(alloc: Global, link: Waiting) -> Result<List<Waiting>, NoMemory>
-    ensures { IfOk result (λ list. list ≡ link ∷ []) }
+// A list of one item.
+fn list_of_one<T: Drop>(alloc: Global, item: T) -> Result<List<T>, NoMemory>
+    ensures { IfOk result (λ list. list ≡ item ∷ []) }
 {
     let mut list = List::new(alloc);
-    list.push(link)?;
+    list.push(item)?;
     Ok(list)
 }
 
-impl Notes {
-    // No links.
-    pub fn new(alloc: Global) -> Notes
+impl<T: Drop> Notes<T> {
+    /// No items. It takes no memory.
+    pub fn new(alloc: Global) -> Notes<T>
         ensures { result ≡ [] }
     {
         Notes {
@@ -44,8 +42,8 @@ impl Notes {
         }
     }
 
-    // The links under a name.
-    pub fn under(&self, name: &[u8]) -> &[Waiting]
+    /// The items under a name.
+    pub fn under(&self, name: &[u8]) -> &[T]
         ensures { result.now ≡ noted_under self.now name.now }
     {
         match self.table.get(name) {
@@ -54,15 +52,15 @@ impl Notes {
         }
     }
 
-    // One link more, last under its name. After an error the notes may be any.
-    pub fn push(&mut self, name: &[u8], link: Waiting) -> Result<(), NoMemory>
-        ensures { OnOk result (self.new ≡ noted self.old name.now link) }
+    /// One item more, last under its name. After an error the notes may be any.
+    pub fn push(&mut self, name: &[u8], item: T) -> Result<(), NoMemory>
+        ensures { OnOk result (self.new ≡ noted self.old name.now item) }
     {
         match self.table.get_index_of(name) {
-            Some(place) => self.table[place].push(link),
+            Some(place) => self.table[place].push(item),
             None => {
                 let key = Vec::from_slice(self.alloc, name)?;
-                let list = list_of_one(self.alloc, link)?;
+                let list = list_of_one(self.alloc, item)?;
                 match self.table.insert(key, list) {
                     Ok(_) => Ok(()),
                     Err(_) => Err(NoMemory),

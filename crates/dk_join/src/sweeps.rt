@@ -19,10 +19,10 @@ use crate::constants::are_known;
 use crate::numbers::{Numbered, Numbers};
 use dk_base::{List, NoMemory, VarId, VarInfo};
 use dk_constants::Constants;
-use dk_engine::{Slot, suited_vars, suits};
+use dk_engine::{Slot, suited_vars};
 use dk_suppress::suppressed;
 use dk_template::{
-    Answers, Grammar, Role, RowId, State, Takes, Tuple, admits, is_written, template_at,
+    Answers, Grammar, Role, RowId, State, Takes, Tuple, admits, is_written, suits, template_at,
 };
 use dk_ternary::Operation;
 use std::alloc::Global;

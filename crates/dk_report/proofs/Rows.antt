@@ -3,6 +3,7 @@ use Rattle.std.specs.Prelude.{◌≡◌, ◌&&◌, ◌==◌, ◌<◌, ℕ, Bool,
 use Rattle.std.proofs.Common.{ap, arith, ◌∙◌, inl, inr, subst, sym}
 use Rattle.std.proofs.lemmas.Bool.{and_cases, and_left, and_right, cases_Bool, eqb-false, eqb-true, lt-ltb}
 use Rattle.dk_base.specs.declared.kinds.VarId.{VarId}
+use Rattle.dk_engine.specs.Suited.{suited_vars}
 use Rattle.dk_filters.specs.Answers.{Answers, Parent}
 use Rattle.dk_filters.specs.Facts.{is_equality}
 use Rattle.dk_filters.specs.Found.{first_in, found_of}
@@ -19,7 +20,7 @@ use Rattle.dk_report.proofs.FlatMaps.{flat_map-filter, flat_map-same, over_one, 
 use Rattle.dk_report.proofs.Falling.{CountsFall}
 use Rattle.dk_report.proofs.Passing.{no-equality, passed, passed-scarce, unadmitted, unequal, unled}
 use Rattle.dk_report.specs.Listing.{listed_candidates, listed_candidates_of_row, may_equal, may_lead, may_stand}
-use Rattle.dk_report.specs.Sweeps.{behind, equal_takes, equals, firsts, over_takes, pairs, seconds, suited_vars, thirds, triples}
+use Rattle.dk_report.specs.Sweeps.{behind, equal_takes, equals, firsts, over_takes, pairs, seconds, thirds, triples}
 use Rattle.dk_report.specs.declared.options.Options.{Options}
 
 -- ---- the variables that may stand in what is kept

@@ -17,7 +17,7 @@ pub mod rows;
 mod templates;
 mod tuple;
 
-pub use admitting::{admits, is_written};
+pub use admitting::{admits, is_written, suits};
 pub use answers::{Answers, Premise};
 pub use asking::{asked_row, suffices_for};
 pub use dk_forms::{Few, State};
