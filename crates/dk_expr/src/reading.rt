@@ -23,9 +23,7 @@ use crate::walking::behind_all;
 use dk_base::{List, NoMemory, VarId, VarInfo};
 use dk_filters::is_asked;
 use dk_print::{instance, parts_of};
-use dk_template::{
-    RowId, State, Takes, Tuple, fits, proper, rows, template_at,
-};
+use dk_template::{RowId, State, Takes, Tuple, fits, proper, rows, template_at};
 use std::alloc::Global;
 
 // Whether the first tuple precedes the other: at the first place at which they differ it has the earlier variable.

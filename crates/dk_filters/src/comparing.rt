@@ -87,4 +87,3 @@ pub(crate) fn is_incomparable(vars: &[VarInfo], tuple: &[VarId]) -> bool
 {
     !are_comparable(vars, tuple) || has_any_foreign_index(vars, tuple)
 }
-
