@@ -1,30 +1,40 @@
 // The variables of a point by their names.
-ghost use Rattle.std.specs.Prelude.{◌≡◌, ◌∷◌, ◌++◌, [], ◌<◌, ◌^◌, IfOk, if◌then◌else◌, length};
+ghost use Rattle.std.specs.Prelude.{◌≡◌, ◌∷◌, ◌++◌, [], ◌<◌, ◌^◌, IfOk, if◌then◌else◌, length, map};
 ghost use Rattle.dk_graph.specs.Notes.{noted, noted_under};
 ghost use Rattle.dk_expr.specs.Naming.{AreUnderNames, HaveLengths, has_length};
 
 use dk_base::{List, NoMemory, VarId, VarInfo};
-use dk_graph::Notes;
+use indexmap::IndexMap;
 use std::alloc::Global;
 use std::marker::Model;
 
 /// The variables of a point, listed under their names.
 #[derive(Drop)]
 pub struct Names {
-    notes: Notes<VarId>,
+    alloc: Global,
+    table: IndexMap<Vec<u8>, List<VarId>>,
     lengths: List<usize>,
 }
 
 impl Model for Names {
-    ghost use Rattle.std.specs.Prelude.{List, ℕ};
+    ghost use Rattle.std.specs.Prelude.{List, ℕ, map};
     ghost use Rattle.dk_base.specs.declared.kinds.VarId.{VarId};
     ghost use Rattle.dk_expr.specs.Naming.{HaveLengths};
 
     ghost Value = { List (List ℕ × List VarId) };
 
-    ghost view = { λ n. n.notes };
+    ghost view = { λ n. map (λ e. (e.0.items, e.1)) n.table.entries };
 
-    ghost invariant = { λ n. HaveLengths n.notes n.lengths };
+    ghost invariant = { λ n. HaveLengths (map (λ e. (e.0.items, e.1)) n.table.entries) n.lengths };
+}
+
+// A list of one variable.
+fn list_of_one(alloc: Global, v: VarId) -> Result<List<VarId>, NoMemory>
+    ensures { IfOk result (λ list. list ≡ v ∷ []) }
+{
+    let mut list = List::new(alloc);
+    list.push(v)?;
+    Ok(list)
 }
 
 // The lengths with one more, unless it is one of them.
@@ -39,13 +49,35 @@ fn with_length(lengths: List<usize>, len: usize) -> Result<List<usize>, NoMemory
     Ok(more)
 }
 
+// One variable more in a table of names, last under its name.
+fn put(
+    alloc: Global,
+    table: IndexMap<Vec<u8>, List<VarId>>,
+    name: &[u8],
+    v: VarId,
+) -> Result<IndexMap<Vec<u8>, List<VarId>>, NoMemory>
+    ensures { IfOk result (λ more. map (λ e. (e.0.items, e.1)) more.entries ≡ noted (map (λ e. (e.0.items, e.1)) table.entries) name.now v) }
+{
+    let mut more = table;
+    match more.get_index_of(name) {
+        Some(place) => more[place].push(v)?,
+        None => {
+            let key = Vec::from_slice(alloc, name)?;
+            let list = list_of_one(alloc, v)?;
+            more.insert(key, list)?;
+        }
+    }
+    Ok(more)
+}
+
 impl Names {
     // No variables.
     fn new(alloc: Global) -> Names
         ensures { result ≡ [] }
     {
         Names {
-            notes: Notes::new(alloc),
+            alloc,
+            table: IndexMap::new(alloc),
             lengths: List::new(alloc),
         }
     }
@@ -54,7 +86,10 @@ impl Names {
     pub(crate) fn under(&self, name: &[u8]) -> &[VarId]
         ensures { result.now ≡ noted_under self.now name.now }
     {
-        self.notes.under(name)
+        match self.table.get(name) {
+            Some(list) => list.as_slice(),
+            None => &[],
+        }
     }
 
     /// How many bytes the names have, each number once.
@@ -68,10 +103,18 @@ impl Names {
     fn with(self, name: &[u8], v: VarId) -> Result<Names, NoMemory>
         ensures { IfOk result (λ names. names ≡ noted self name.now v) }
     {
-        let Names { mut notes, lengths } = self;
+        let Names {
+            alloc,
+            table,
+            lengths,
+        } = self;
         let lengths = with_length(lengths, name.len())?;
-        notes.push(name, v)?;
-        Ok(Names { notes, lengths })
+        let table = put(alloc, table, name, v)?;
+        Ok(Names {
+            alloc,
+            table,
+            lengths,
+        })
     }
 
     /// A point's variables, each under its name. There must be fewer than 2^32 of them.

@@ -19,7 +19,7 @@ use std::marker::Model;
 pub(crate) struct Parts {
     nodes: List<Node>,
     names: Names,
-    waiting: Notes<Waiting>,
+    waiting: Notes,
     from: Vec<EdgeRow>,
     into: Vec<EdgeRow>,
 }
@@ -121,7 +121,7 @@ fn sort_links(
     child: PointId,
     links: &[Text],
     own: &mut EdgeRow,
-    waiting: &mut Notes<Waiting>,
+    waiting: &mut Notes,
 ) -> Result<(), NoMemory>
     requires { length names.now ≤ 65535 }
     ensures own { OnOk result (own.new ≡ own.old ++ filter_map (edge_of names.now) (links_to_parents child.0 links.now)) }

@@ -17,4 +17,3 @@ mod rows;
 pub use graph::Graph;
 pub use names::Names;
 pub use nodes::{Edge, Node};
-pub use notes::Notes;

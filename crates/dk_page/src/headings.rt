@@ -1,10 +1,11 @@
 // The names of sections, and which one of its name each is.
-ghost use Rattle.std.specs.Prelude.{[], ℕ, List, IfOk};
+ghost use Rattle.std.specs.Prelude.{◌≡◌, ◌∷◌, [], ℕ, List, IfOk, OnOk};
+ghost use Rattle.dk_graph.specs.Notes.{noted, noted_under};
 ghost use Rattle.dk_page.specs.Headings.{IsNext, StandsFor};
 
 use crate::ids::id_behind;
-use dk_base::{NoMemory, Text};
-use dk_graph::Notes;
+use dk_base::{List, NoMemory, Text};
+use indexmap::IndexMap;
 use std::alloc::Global;
 use std::marker::Model;
 
@@ -12,15 +13,24 @@ use std::marker::Model;
 #[derive(Drop)]
 pub struct Headings {
     alloc: Global,
-    notes: Notes<usize>,
+    table: IndexMap<Vec<u8>, List<usize>>,
 }
 
 impl Model for Headings {
-    ghost use Rattle.std.specs.Prelude.{List, ℕ};
+    ghost use Rattle.std.specs.Prelude.{List, ℕ, map};
 
     ghost Value = { List (List ℕ × List ℕ) };
 
-    ghost view = { λ h. h.notes };
+    ghost view = { λ n. map (λ e. (e.0.items, e.1)) n.table.entries };
+}
+
+// A list of one number.
+fn list_of_one(alloc: Global, number: usize) -> Result<List<usize>, NoMemory>
+    ensures { IfOk result (λ list. list ≡ number ∷ []) }
+{
+    let mut list = List::new(alloc);
+    list.push(number)?;
+    Ok(list)
 }
 
 impl Headings {
@@ -30,7 +40,34 @@ impl Headings {
     {
         Headings {
             alloc,
-            notes: Notes::new(alloc),
+            table: IndexMap::new(alloc),
+        }
+    }
+
+    // The numbers under a name.
+    fn under(&self, name: &[u8]) -> &[usize]
+        ensures { result.now ≡ noted_under self.now name.now }
+    {
+        match self.table.get(name) {
+            Some(list) => list.as_slice(),
+            None => &[],
+        }
+    }
+
+    // One number more, last under its name. After an error the names may be any.
+    fn push(&mut self, name: &[u8], number: usize) -> Result<(), NoMemory>
+        ensures { OnOk result (self.new ≡ noted self.old name.now number) }
+    {
+        match self.table.get_index_of(name) {
+            Some(place) => self.table[place].push(number),
+            None => {
+                let key = Vec::from_slice(self.alloc, name)?;
+                let list = list_of_one(self.alloc, number)?;
+                match self.table.insert(key, list) {
+                    Ok(_) => Ok(()),
+                    Err(_) => Err(NoMemory),
+                }
+            }
         }
     }
 
@@ -38,8 +75,8 @@ impl Headings {
     pub fn next(&mut self, name: &[u8]) -> Result<Text, NoMemory>
         ensures { IfOk result (λ id. (names : List (List ℕ)) → StandsFor self.old names → IsNext self.old names name.now id self.new) }
     {
-        let count = self.notes.under(name).len();
-        self.notes.push(name, count)?;
+        let count = self.under(name).len();
+        self.push(name, count)?;
         id_behind(self.alloc, count as u64, name)
     }
 }

@@ -1,9 +1,10 @@
-use Rattle.std.specs.Prelude.{List, ℕ}
+use Rattle.std.specs.Prelude.{List, ℕ, map}
 use Rattle.std.proofs.Common.{subst, sym}
+use Rattle.dk_graph.proofs.Noting.{entry}
 use Rattle.dk_expr.specs.Naming.{HaveLengths, Listed}
 use Rattle.dk_expr.proofs.names.Names.lengths.Goals as goal
 
 pub returns : goal.returns
 returns c =
-    subst (λ (l : Listed). HaveLengths l c.as_slice.result.now) c.self.view_is
-    (subst (λ (ls : List ℕ). HaveLengths c.self.inside.notes ls) (sym c.as_slice.ensures) c.self.invariant)
+    let old : Listed = map (entry (λ k. k.items)) c.self.inside.table.entries in
+    subst (λ (l : Listed). HaveLengths l c.as_slice.result.now) c.self.view_is (subst (λ (ls : List ℕ). HaveLengths old ls) (sym c.as_slice.ensures) c.self.invariant)
