@@ -19,7 +19,7 @@ use crate::runs::{passed_to, run_end, still_to};
 use crate::staying::is_of_bounds_or_comparisons;
 use dk_base::{List, NoMemory, View};
 use dk_suppress::{asked_of, suppressed};
-use dk_template::{RowId, State, suffices_for};
+use dk_template::{RowId, State, rows, suffices_for};
 use std::alloc::Global;
 
 /// A slot's place with the state that a sample makes of it; one that goes is Broken.
@@ -47,7 +47,7 @@ fn is_empty(state: &State) -> bool
 pub(crate) fn can_close(slot: &Slot) -> bool
     ensures { result ≡ can_close slot.now }
 {
-    is_empty(&slot.state) || slot.row.0 == 38
+    is_empty(&slot.state) || slot.row.0 == rows::ELT_NON_ZERO
 }
 
 // Whether a rule begins to suppress the slot.
@@ -209,7 +209,7 @@ fn add_seen(
 
 // Whether the slots of a row are looked at one by one: bounds and comparisons, and planes where some of them are passed over.
 fn are_looked_at(row: RowId, skips: &[usize]) -> bool {
-    is_of_bounds_or_comparisons(row) || row.0 == 67 && !skips.is_empty()
+    is_of_bounds_or_comparisons(row) || row.0 == rows::LINEAR_TERNARY && !skips.is_empty()
 }
 
 // With the changes of a run of slots, from a place up to another, behind those of the slots in front of it.
@@ -390,7 +390,7 @@ fn may_begin(slots: &[Slot], change: &Change) -> bool
     ensures { result ≡ may_begin slots.now change.now }
 {
     let slot = &slots[change.place];
-    is_empty(&slot.state) && (slot.row.0 == 36 || slot.row.0 == 37)
+    is_empty(&slot.state) && (slot.row.0 == rows::ELT_LOWER || slot.row.0 == rows::ELT_UPPER)
 }
 
 /// Whether it may by one of the changes.

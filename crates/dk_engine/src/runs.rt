@@ -21,7 +21,7 @@ use crate::ends::REACH;
 use crate::idle::{is_passed, skip_at};
 use dk_base::View;
 use dk_grammar::first_changed;
-use dk_template::RowId;
+use dk_template::{RowId, rows};
 
 // Where the slots of this row and of earlier ones end, found by halving.
 fn rows_end(slots: &[Slot], row: RowId) -> usize
@@ -219,7 +219,7 @@ fn still_among(
 
 // Whether some slots of a row may be passed over, and others lie between them: lines. Bounds, comparisons and planes are looked at one by one.
 fn may_be_idle(row: RowId, skips: &[usize]) -> bool {
-    row.0 == 15 && !skips.is_empty()
+    row.0 == rows::LINEAR && !skips.is_empty()
 }
 
 /// Up to where the slots of a row from one place to another stay as they are.

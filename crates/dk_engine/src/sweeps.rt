@@ -10,7 +10,7 @@ ghost use Rattle.dk_engine.specs.Sweeps.{behind, considered, firsts, freed_slots
 
 use crate::after::After;
 use crate::constant::are_known;
-use crate::operations::{breaks, descend, operation_of};
+use crate::operations::{breaks, descend};
 use crate::reaching::rows_reached;
 use crate::suited::{Suited, suited_one};
 use crate::{Slot, Slots};
@@ -109,7 +109,7 @@ impl<'a> Sweep<'a> {
         requires { IsRowOf self.now.answers.now.whole.grammar row }
         ensures { OnOk result (slots.new ≡ slots.old ++ thirds self.now.infos.now self.now.known.now (read_after self.now.answers.now.whole.kept self.now.answers.now.sample) row v w third.now) }
     {
-        let operation = operation_of(row);
+        let operation = Operation::of(row);
         for x in third {
             if !self.is_out(operation, v, w, *x) {
                 self.consider(row, &[v, w, *x], slots)?;
