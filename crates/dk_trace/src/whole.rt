@@ -8,12 +8,11 @@ ghost use Rattle.dk_trace.specs.Whole.{BodyStands, IsCut, IsPushed, IsTidy, Mark
 
 use crate::marks::Unmarked;
 use crate::reader::{point_named_by, var_decls_at};
+use crate::recent::Recent;
 use crate::sample::BaseSample;
 use crate::values::{push_constant, push_shown};
 use bumpalo::collections::into_bump_slice;
-use dk_base::{
-    Arena, BlockFault, Kind, NoMemory, PointId, View, parse_integer, same_bytes, short_number,
-};
+use dk_base::{Arena, BlockFault, Kind, NoMemory, View, parse_integer, same_bytes, short_number};
 use dk_decl::VarDecl;
 use dk_points::Points;
 use memchr::memchr;
@@ -287,11 +286,11 @@ fn read_body<'a, 'b>(
 
 /// The record that stands whole at the front of the bytes, the first line of which has this number, with the empty line behind it. Where
 /// none is given, one may stand there all the same; only its lines tell then. A record is given only where each of its lines is read as it
-/// stands, and its variables have bare names. The point `last` is tried first, as that of the record before.
+/// stands, and its variables have bare names. The points of the records before are tried first.
 pub fn read_whole<'a>(
     alloc: Global,
     points: &Points,
-    last: PointId,
+    recent: Recent,
     arena: &'a Arena,
     line: u64,
     bytes: &[u8],
@@ -301,7 +300,7 @@ pub fn read_whole<'a>(
     let Some((first, rest)) = cut_line(bytes) else {
         return Ok(None);
     };
-    let point = match point_named_by(alloc, points, last, line, first) {
+    let point = match point_named_by(alloc, points, recent.likely(points, first), line, first) {
         Ok(point) => point,
         Err(BlockFault::NoMemory) => return Err(NoMemory),
         Err(BlockFault::Refused { .. }) => return Ok(None),
