@@ -44,7 +44,7 @@ impl<'a> Model for Both<'a> {
 }
 
 impl<'a> Both<'a> {
-    /// The two engines.
+    /// Two engines that are to be joined.
     pub(crate) fn of(alloc: Global, first: &'a Engine, second: &'a Engine) -> Both<'a>
         requires { AreAlike (record { first = first.now; second = second.now }) }
         ensures { result ≡ record { first = first.now; second = second.now } }

@@ -133,7 +133,7 @@ const RULES: &[Rule] = &[
     rule!(66, [holds!(57, 0, 1), holds!(43, 0)]), // s is the reverse of t: s == t and s elements are equal
 ];
 
-/// The rules.
+/// All rules of the table, in its order.
 #[tactic(auto, unfolding(crate::specs::Rules::rules))]
 pub fn rules() -> &'static [Rule]
     ensures { map told result.now ≡ rules }
