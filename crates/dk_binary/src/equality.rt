@@ -24,7 +24,7 @@ pub enum Scalar {
 /// That two values of the kind are equal, or that they differ.
 #[derive(Clone, Copy, Debug, PartialEq, Eq)]
 pub struct Equality {
-    /// Their kind.
+    /// The kind of both values.
     pub kind: Scalar,
     /// Whether they are equal.
     pub equal: bool,

@@ -101,7 +101,7 @@ fn or_left_out<'a>(ignores: bool, fault: BlockFault) -> Result<Option<Found<'a>>
 impl Kept {
     ghost use Rattle.dk_blocks.specs.Standing.{Stands, Fits, BlockGoesOn, Closes, DeclaredAs, IsBetweenFiles, IsDeclared, left_behind, left_with_answer, block_resumed, resumed_by};
 
-    /// No points.
+    /// What is kept before the first block: no points.
     #[tactic(auto, unfolding(crate::specs::Standing::Stands))]
     pub(crate) fn new(alloc: Global) -> Result<Kept, NoMemory>
         ensures stands { IfOk result (λ kept. (grammar : Grammar) → Stands kept (nothing_by grammar)) }

@@ -109,7 +109,7 @@ fn with_entry<'a>(
 impl Calls {
     ghost use Rattle.dk_calls.specs.Standing.{CallsStandForRecords, Holds, WaitAlike};
 
-    /// No entry waits.
+    /// No entry waits yet.
     pub fn new(alloc: Global) -> Result<Calls, NoMemory>
         ensures { IfOk result (λ calls. CallsStandForRecords calls []) }
     {

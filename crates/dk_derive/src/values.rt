@@ -164,7 +164,7 @@ fn at<'a>(base: &[View<'a>], var: VarId) -> View<'a>
     base_value(base, var.0 as usize)
 }
 
-// The last element.
+// The last element of a sequence, which is missing where there is none.
 fn last<'a>(sequence: View<'a>) -> View<'a>
     ensures { value_of result ≡ element (value_of sequence.entry) (Some (number_of_elements (value_of sequence.entry) - 1)) }
 {

@@ -113,14 +113,14 @@ impl<'a> After<'a> {
         engine.kept.slots.ends()
     }
 
-    /// The variables.
+    /// The variables of the point.
     pub(crate) fn infos(&self) -> &[VarInfo]
         ensures { result.now ≡ self.now.whole.infos }
     {
         self.engine.vars()
     }
 
-    /// The sample.
+    /// The sample that came.
     pub(crate) fn sample(&self) -> &[View<'_>]
         ensures sample { values_of result.now ≡ self.now.sample }
         ensures sampled { IsSample self.now.whole.infos self.now.sample }

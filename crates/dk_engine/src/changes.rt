@@ -124,7 +124,7 @@ fn make_room<T: Drop>(alloc: Global, room: usize, list: &mut List<T>) -> Result<
     Ok(())
 }
 
-// With a growth.
+// Puts a growth behind the others.
 fn push_growth(alloc: Global, growth: Growth, growths: &mut List<Growth>) -> Result<(), NoMemory>
     ensures { OnOk result (growths.new ≡ growths.old ++ growth ∷ []) }
 {

@@ -26,7 +26,7 @@ struct Sizes {
 }
 
 impl Sizes {
-    // Of no leaders.
+    // The sizes of no leaders.
     fn none() -> Sizes {
         Sizes {
             leaders: 0,
@@ -56,7 +56,7 @@ impl Sizes {
     }
 }
 
-// Of these leaders.
+// How many of these leaders are of each kind.
 fn sizes_of(infos: &[VarInfo], leaders: &[VarId]) -> Sizes {
     let mut sizes = Sizes::none();
     for v in leaders {

@@ -75,14 +75,14 @@ impl Engine {
         })
     }
 
-    /// Its grammar.
+    /// The grammar by which the engine was made.
     pub fn grammar(&self) -> Grammar
         ensures { result ≡ self.now.grammar }
     {
         self.grammar
     }
 
-    /// Its variables.
+    /// The variables of the engine's point.
     pub fn vars(&self) -> &[VarInfo]
         ensures { result.now ≡ self.now.infos }
     {
@@ -136,7 +136,7 @@ impl Engine {
         &self.kept.held
     }
 
-    /// The constant leaders.
+    /// The leaders that have had one value so far, with it.
     pub fn constants(&self) -> &Constants
         ensures { result.now ≡ self.now.kept.known }
     {

@@ -167,7 +167,7 @@ fn is_one(range: &Range, v: VarId, d: i128) -> bool
     range.var.0 == v.0 && (range.least == range.greatest && d == -(range.least as i128))
 }
 
-// Whether they are.
+// Whether the bounds are those of this variable.
 fn is_of_var(range: &Range, v: VarId) -> bool
     ensures { result ≡ (range.now.var.0 == v.0 && true) }
 {

@@ -182,7 +182,7 @@ pub(crate) enum Seen {
     Stays,
     /// The slot is a stretch of a line, which ends at the sample's point then.
     Grows(Growth),
-    /// Neither is seen.
+    /// It isn't seen whether the slot stays or grows.
     Neither,
 }
 

@@ -35,7 +35,7 @@ pub(crate) fn suited_one<'v>(role: Role, infos: &[VarInfo], one: &'v [VarId]) ->
     if suits(role, infos, one[0]) { one } else { &[] }
 }
 
-// All roles.
+// Every role that a row may have.
 const ROLES: &[Role] = &[
     Any(Bool),
     Any(Int),
@@ -55,7 +55,7 @@ const ROLES: &[Role] = &[
     Base(StrSeq),
 ];
 
-// All roles.
+// Every role that a row may have.
 fn all_roles() -> &'static [Role]
     ensures { result.now ≡ all_roles }
 {
@@ -107,7 +107,7 @@ pub(crate) struct Suited<'a> {
 }
 
 impl<'a> Suited<'a> {
-    /// These leaders.
+    /// Lists these leaders by the roles that they suit.
     pub(crate) fn of(
         alloc: Global,
         infos: &'a [VarInfo],

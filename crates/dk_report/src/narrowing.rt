@@ -44,7 +44,7 @@ fn is_of_row(row: RowId, slot: &Slot) -> bool
     slot.row.0 == row.0 && fits(&slot.state) && are_distinct(slot.leaders.as_slice())
 }
 
-// Such slots.
+// The slots of one row, in order.
 fn slots_of_row<'s>(alloc: Global, slots: &'s [Slot], row: RowId) -> Result<Vec<&'s Slot>, NoMemory>
     ensures { IfOk result (λ list. map (λ slot. slot.now) list.items ≡ filter (is_of_row row) slots.now) }
 {

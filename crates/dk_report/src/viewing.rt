@@ -109,7 +109,7 @@ fn is_met(led: &[(VarId, VarId)], row: RowId, slot: &Slot) -> bool
     slot.row.0 == row.0 && (are_distinct(leaders) || some_leads_several(led, leaders))
 }
 
-// Such slots.
+// The slots whose leaders lead variables that are shown.
 fn slots_met<'s>(
     alloc: Global,
     led: &[(VarId, VarId)],
@@ -289,7 +289,7 @@ fn is_told(shown: bool, below: &[List<VarId>], row: RowId, v: VarId) -> bool
     shown || may_follow(below, row, v)
 }
 
-// Such variables.
+// The variables that are shown and of which the row may say something.
 fn told_row(
     alloc: Global,
     shown: &[(VarId, bool)],

@@ -219,7 +219,7 @@ const RULES: &[Rule] = &[
     ), // s is the reverse of t: s == t and s elements are equal
 ];
 
-/// The rules.
+/// All rules of the table, in its order.
 #[tactic(auto, unfolding(crate::specs::Rules::rules))]
 pub fn rules() -> &'static [Rule]
     ensures { map told result.now ≡ rules }
