@@ -1,9 +1,8 @@
 // What is read with one sample more.
-ghost use Rattle.std.specs.Prelude.{◌≡◌, ◌∷◌, [], true, if◌then◌else◌, IfOk, IsTrue, OnErr};
+ghost use Rattle.std.specs.Prelude.{◌≡◌, ◌↔◌, ◌∷◌, [], true, if◌then◌else◌, IfOk, IsTrue, OnErr};
 ghost use Rattle.dk_base.specs.Values.{values_of};
 ghost use Rattle.dk_fits.specs.Fits.{is_whole, tuple_in};
 ghost use Rattle.dk_fits.specs.Laws.{IsSample};
-ghost use Rattle.dk_forms.specs.declared.states.State.{State as RowState};
 ghost use Rattle.dk_forms.specs.declared.states.State.TheVariants.{Broken};
 ghost use Rattle.dk_rows.specs.Meanings.{state_of};
 ghost use Rattle.dk_template.specs.Admitted.{admits};
@@ -64,7 +63,7 @@ fn tuple_stays(row: RowId, state: &State, tuple: &[View<'_>]) -> bool
     requires row { IsRow row }
     requires state { IsProper (form_of row) state.now }
     requires tuple { is_whole (values_of tuple.now) ≡ true → IsTuple (role_kinds row) (values_of tuple.now) }
-    ensures { IsTrue result → (if is_whole (values_of tuple.now) then joined (form_of row) state.now (state_of row (values_of tuple.now ∷ [])) else state.now) ≡ state.now }
+    ensures { IsTrue result ↔ ((if is_whole (values_of tuple.now) then joined (form_of row) state.now (state_of row (values_of tuple.now ∷ [])) else state.now) ≡ state.now) }
 {
     !are_present(tuple) || stays(row, state, tuple)
 }
@@ -180,18 +179,28 @@ impl<'a> After<'a> {
         }
     }
 
-    // Whether the sample's tuple breaks the row, which has a relation, whatever its state was.
-    fn breaks(&self, row: RowId, vars: &[VarId]) -> Result<bool, NoMemory>
+    /// Whether the sample's tuple breaks the row, which has a relation, whatever its state was.
+    pub(crate) fn breaks(&self, row: RowId, vars: &[VarId]) -> bool
         requires row { IsRowOf self.now.whole.grammar row }
         requires vars { IsTrue (admits row self.now.whole.infos vars.now) }
-        ensures breaks { IfOk result (λ b. IsTrue b → (s : RowState) → with_sample row vars.now self.now.sample s ≡ Broken) }
-        ensures err { OnErr result (IsTrue (wants_memory row)) }
+        ensures { IsTrue result → read_after self.now.whole.kept self.now.sample row vars.now ≡ Broken }
     {
         if !info(row).plain {
-            return Ok(false);
+            return false;
         }
-        let state = self.with_sample(row, vars, State::Empty)?;
-        Ok(matches!(state, State::Broken))
+        !self.state_stays(row, vars, &State::Holds)
+    }
+
+    /// The state of a row over variables, which the sample mostly doesn't break.
+    pub(crate) fn unbroken_state(&self, row: RowId, vars: &[VarId]) -> Result<State, NoMemory>
+        requires row { IsRowOf self.now.whole.grammar row }
+        requires vars { IsTrue (admits row self.now.whole.infos vars.now) }
+        ensures state { IfOk result (λ s. s ≡ read_after self.now.whole.kept self.now.sample row vars.now) }
+        ensures proper { IfOk result (λ s. IsProper (form_of row) s) }
+        ensures err { OnErr result (IsTrue (wants_memory row)) }
+    {
+        let before = self.engine.state(row, vars)?;
+        self.with_sample(row, vars, before)
     }
 
     /// The state of a row over variables. Where the sample breaks it, what it was isn't looked at.
@@ -202,11 +211,10 @@ impl<'a> After<'a> {
         ensures proper { IfOk result (λ s. IsProper (form_of row) s) }
         ensures err { OnErr result (IsTrue (wants_memory row)) }
     {
-        if self.breaks(row, vars)? {
+        if self.breaks(row, vars) {
             return Ok(State::Broken);
         }
-        let before = self.engine.state(row, vars)?;
-        self.with_sample(row, vars, before)
+        self.unbroken_state(row, vars)
     }
 
     /// A slot's state with the sample.
@@ -230,7 +238,7 @@ impl<'a> After<'a> {
         requires vars { IsTrue (admits row self.now.whole.infos vars.now) }
         requires proper { IsProper (form_of row) state.now }
         requires tuple { values_of tuple.now ≡ tuple_in vars.now self.now.sample }
-        ensures { IsTrue result → with_sample row vars.now self.now.sample state.now ≡ state.now }
+        ensures { IsTrue result ↔ (with_sample row vars.now self.now.sample state.now ≡ state.now) }
     {
         tuple_stays(row, state, tuple)
     }
@@ -240,7 +248,7 @@ impl<'a> After<'a> {
         requires row { IsRowOf self.now.whole.grammar row }
         requires vars { IsTrue (admits row self.now.whole.infos vars.now) }
         requires proper { IsProper (form_of row) state.now }
-        ensures { IsTrue result → with_sample row vars.now self.now.sample state.now ≡ state.now }
+        ensures { IsTrue result ↔ (with_sample row vars.now self.now.sample state.now ≡ state.now) }
     {
         let sample = self.sample;
         match vars {
