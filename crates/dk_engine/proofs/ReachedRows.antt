@@ -1,5 +1,5 @@
 -- The rows that a row reaches: those that it frees, and those that these reach. Rows that rules conclude.
-use Rattle.std.specs.Prelude.{◌≡◌, ◌<◌, ◌≤◌, ◌==◌, ℕ, Bool, true, All, Contains, List, [], length, map, nat_le, refl, slice_index_or}
+use Rattle.std.specs.Prelude.{◌≡◌, ◌<◌, ◌≤◌, ◌==◌, ℕ, Bool, false, true, All, Contains, List, [], length, map, nat_le, refl, slice_index_or}
 use Rattle.std.specs.List.{list_all}
 use Rattle.std.proofs.Common.{ap, ◌∙◌, arith, get_or, inl, inr, subst, sym, Bor}
 use Rattle.std.proofs.lemmas.Bool.{cases_lt, eqb-true, false_from_ne_true, leb-true}
@@ -127,7 +127,7 @@ low_conclusions : list_all (λ (r : Rule). nat_le r.0.0 66) rules ≡ true
 unfolding rules
 low_conclusions = refl
 
-by_number : ℕ → Bool
+abbrev by_number : ℕ → Bool
 by_number n = has_rule (record { 0 = n })
 
 module _ (items : List Bool) (known : items ≡ concluded_by_number) (row : RowId) where

@@ -77,8 +77,8 @@ module _ {grammar : Grammar} {infos : List VarInfo} {samples : List (List Value)
   stays_open slot had shut =
       let parts = or_parts (is_empty_conclusion slot) (list_any (λ (r : Rule). r.0.0 == slot.row.0 && asks_elements r) rules) shut in
       elim (cases_Bool (has_rule slot.row)) [
-        | inr none ↦ unconcluded (fit_of more) slot.row slot.leaders none
         | inl has ↦ still_open parts.1 (full (is_empty_state slot.state) (has_rule slot.row) has parts.0)
+        | inr none ↦ unconcluded (fit_of more) slot.row slot.leaders none
       ]
     where
       full : (a b : Bool) → b ≡ true → (a && b) ≡ false → a ≡ false

@@ -9,7 +9,7 @@ ghost use Rattle.dk_template.specs.Admitted.{admits};
 ghost use Rattle.dk_template.specs.Joins.{joined};
 ghost use Rattle.dk_template.specs.Proper.{IsProper};
 ghost use Rattle.dk_template.specs.Rows.{IsTuple};
-ghost use Rattle.dk_template.specs.Templates.{IsRow, IsRowOf, form_of, role_kinds};
+ghost use Rattle.dk_template.specs.Templates.{IsRow, IsRowOf, form_of, is_plain, role_kinds};
 ghost use Rattle.dk_engine.specs.Feeding.{agree_after, count_after, read_after, with_sample};
 ghost use Rattle.dk_engine.specs.Memory.{wants_memory};
 ghost use Rattle.dk_engine.specs.Reading.{state_read};
@@ -23,6 +23,14 @@ use dk_samples::{is_present, value_at};
 use dk_template::{Answers, RowId, State, info, join_states, template_at};
 use std::alloc::Global;
 use std::marker::Model;
+
+// Whether the row has a relation.
+fn is_plain(row: RowId) -> bool
+    requires { IsRow row }
+    ensures { result ≡ is_plain (form_of row) }
+{
+    info(row).plain
+}
 
 // Whether no value of the tuple is missing.
 fn are_present(tuple: &[View<'_>]) -> bool
@@ -185,10 +193,11 @@ impl<'a> After<'a> {
         requires vars { IsTrue (admits row self.now.whole.infos vars.now) }
         ensures { IsTrue result → read_after self.now.whole.kept self.now.sample row vars.now ≡ Broken }
     {
-        if !info(row).plain {
-            return false;
+        if is_plain(row) {
+            !self.state_stays(row, vars, &State::Holds)
+        } else {
+            false
         }
-        !self.state_stays(row, vars, &State::Holds)
     }
 
     /// The state of a row over variables, which the sample mostly doesn't break.

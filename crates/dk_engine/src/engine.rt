@@ -193,7 +193,7 @@ impl Engine {
     }
 
     // Whether the leaders are constant, and in the row's written order.
-    fn are_constants(&self, row: RowId, leaders: &[VarId]) -> bool
+    fn are_written_constants(&self, row: RowId, leaders: &[VarId]) -> bool
         requires { IsRowOf self.now.grammar row }
         ensures written { IsTrue result → IsTrue (is_written row leaders.now) }
         ensures known { IsTrue result → all_known self.now.kept.known leaders.now ≡ true }
@@ -235,7 +235,7 @@ impl Engine {
         }
         let tuple = self.leaders_of(vars);
         let leaders = tuple.as_slice();
-        if self.are_constants(row, leaders) {
+        if self.are_written_constants(row, leaders) {
             return constant_state(self.alloc, &self.kept.known, row, leaders);
         }
         self.state_of_leaders(row, leaders)

@@ -122,7 +122,7 @@ pub(crate) fn is_concluded(row: RowId) -> bool
     ensures { result ≡ has_rule row }
 {
     match concluded_rows().get(row.0 as usize) {
-        Some(is) => *is,
+        Some(concluded) => *concluded,
         None => false,
     }
 }

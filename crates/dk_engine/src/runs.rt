@@ -93,7 +93,7 @@ fn end_of_row(ends: &[usize], slots: &[Slot], place: usize) -> usize
 }
 
 // Whether the slot is of a row and can't close.
-fn is_open(row: RowId, slot: &Slot) -> bool
+fn is_in_run(row: RowId, slot: &Slot) -> bool
     ensures { result ≡ is_in_run true row slot.now }
 {
     slot.row.0 == row.0 && !can_close(slot)
@@ -122,9 +122,9 @@ fn open_end(slots: &[Slot], place: usize) -> usize
 {
     let row = slots[place].row;
     let to = reach_of(slots, place);
-    for next in place..to {
-        if !is_open(row, &slots[next]) {
-            return next;
+    for other in place..to {
+        if !is_in_run(row, &slots[other]) {
+            return other;
         }
     }
     to

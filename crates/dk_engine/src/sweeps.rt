@@ -41,7 +41,10 @@ impl<'a> Sweep<'a> {
         if !is_written(row, vars) || !admits(row, self.infos, vars) {
             return Ok(());
         }
-        if self.answers.breaks(row, vars) || are_known(self.known, vars) {
+        if self.answers.breaks(row, vars) {
+            return Ok(());
+        }
+        if are_known(self.known, vars) {
             return Ok(());
         }
         let state = self.answers.unbroken_state(row, vars)?;

@@ -39,13 +39,13 @@ constant_state-requires-clause-tuple c =
     let are : CanBeFed w.grammar w.infos w.kept = subst (λ (v : Whole). CanBeFed v.grammar v.infos v.kept) c.self.view_is c.self.invariant.1 in
     let leaders = c.as_slice-leaders.result.now in
     let same : leaders ≡ leaders_of w.kept.leaders c.args.vars.now = search rules in
-    let known : all_known w.kept.known leaders ≡ true = c.are_constants.ensures.known c.if-are_constants.true in
+    let known : all_known w.kept.known leaders ≡ true = c.are_written_constants.ensures.known c.if-are_written_constants.true in
     let tuple = constants_tuple w.grammar w.infos w.kept are.readable row leaders (admitted_leaders w point are row c.args.vars.now leaders same c.requires.vars) known in
     subst (λ (v : Whole). is_whole (known_tuple v.kept.known leaders) ≡ true → IsTuple (role_kinds row) (known_tuple v.kept.known leaders)) (sym c.self.view_is) tuple
 
 pub constant_state-requires-clause-known : goal.constant_state-requires-clause-known
 constant_state-requires-clause-known c =
-    subst (λ (v : Whole). all_known v.kept.known c.as_slice-leaders.result.now ≡ true) (sym c.self.view_is) (c.are_constants.ensures.known c.if-are_constants.true)
+    subst (λ (v : Whole). all_known v.kept.known c.as_slice-leaders.result.now ≡ true) (sym c.self.view_is) (c.are_written_constants.ensures.known c.if-are_written_constants.true)
 
 pub constant_state-requires-clause-some : goal.constant_state-requires-clause-some
 constant_state-requires-clause-some c =
@@ -66,29 +66,29 @@ state_of_leaders-requires-clause-leaders c =
     let same : leaders ≡ leaders_of w.kept.leaders c.args.vars.now = search rules in
     admitted_leaders w point are c.args.row c.args.vars.now leaders same c.requires.vars
 
-pub returns-then-are_constants-clause-state : goal.returns-then-are_constants-clause-state
-returns-then-are_constants-clause-state c =
+pub returns-then-are_written_constants-clause-state : goal.returns-then-are_written_constants-clause-state
+returns-then-are_written_constants-clause-state c =
     let w : Whole = c.args.self.now in
     let row = c.args.row in
     let leaders = c.as_slice-leaders.result.now in
     let same : leaders ≡ leaders_of w.kept.leaders c.args.vars.now = search rules in
-    let told = c.are_constants.ensures in
+    let told = c.are_written_constants.ensures in
     let one : state_of_one row (known_tuple w.kept.known leaders) ≡ state_read w.kept row c.args.vars.now =
-    constants_read 4 (omega arith) w.kept row leaders (told.written c.if-are_constants.true) (told.known c.if-are_constants.true)
+    constants_read 4 (omega arith) w.kept row leaders (told.written c.if-are_written_constants.true) (told.known c.if-are_written_constants.true)
     ∙ (ap (read_leaders 4 w.kept row) same
     ∙ read_some w.kept row c.args.vars.now (subst (λ (v : Whole). v.kept.samples ≡ 0 → ⊥) c.self.view_is c.if-self-eq0.false)) in
     IfOk-weaker c.constant_state.result (λ s. s ≡ state_of_one row (known_tuple w.kept.known leaders)) (λ s. s ≡ state_read w.kept row c.args.vars.now) (λ s e. e ∙ one)
     (subst (λ (v : Whole). IfOk c.constant_state.result (λ s. s ≡ state_of_one row (known_tuple v.kept.known leaders))) c.self.view_is c.constant_state.ensures.state)
 
-pub returns-then-are_constants-clause-proper : goal.returns-then-are_constants-clause-proper
-returns-then-are_constants-clause-proper c =
+pub returns-then-are_written_constants-clause-proper : goal.returns-then-are_written_constants-clause-proper
+returns-then-are_written_constants-clause-proper c =
     let w : Whole = c.args.self.now in
     let row = c.args.row in
     let point : AreOfPoint w.infos = subst (λ (v : Whole). AreOfPoint v.infos) c.self.view_is c.self.invariant.0 in
     let are : CanBeFed w.grammar w.infos w.kept = subst (λ (v : Whole). CanBeFed v.grammar v.infos v.kept) c.self.view_is c.self.invariant.1 in
     let leaders = c.as_slice-leaders.result.now in
     let same : leaders ≡ leaders_of w.kept.leaders c.args.vars.now = search rules in
-    let known : all_known w.kept.known leaders ≡ true = c.are_constants.ensures.known c.if-are_constants.true in
+    let known : all_known w.kept.known leaders ≡ true = c.are_written_constants.ensures.known c.if-are_written_constants.true in
     let proper = constants_proper w.grammar w.infos w.kept are.readable row leaders (row_is w.grammar row c.requires.row) (admitted_leaders w point are row c.args.vars.now leaders same c.requires.vars) known in
     IfOk-weaker c.constant_state.result (λ s. s ≡ state_of_one row (known_tuple w.kept.known leaders)) (λ s. IsProper (form_of row) s) (λ s e. subst (IsProper (form_of row)) (sym e) proper)
     (subst (λ (v : Whole). IfOk c.constant_state.result (λ s. s ≡ state_of_one row (known_tuple v.kept.known leaders))) c.self.view_is c.constant_state.ensures.state)
