@@ -1,5 +1,5 @@
 // The engine of a point.
-ghost use Rattle.std.specs.Prelude.{◌≡◌, ◌↔◌, ◌<◌, ◌≤◌, suc, [], IfOk, IfSome, IsTrue, List, OnErr, length};
+ghost use Rattle.std.specs.Prelude.{◌≡◌, ◌↔◌, ◌<◌, ◌≤◌, suc, true, [], IfOk, IfSome, IsTrue, List, OnErr, length};
 ghost use Rattle.dk_base.specs.Values.{values_of};
 ghost use Rattle.dk_base.specs.declared.kinds.VarId.{VarId};
 ghost use Rattle.dk_base.specs.declared.kinds.VarInfo.{VarInfo};

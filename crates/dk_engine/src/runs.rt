@@ -1,5 +1,5 @@
 // Runs of slots that a sample leaves as they are, found without looking at the row of each.
-ghost use Rattle.std.specs.Prelude.{◌≡◌, ◌<◌, ◌≤◌, ℕ, true, false, All, IsTrue, length};
+ghost use Rattle.std.specs.Prelude.{◌≡◌, ◌<◌, ◌≤◌, ℕ, true, All, IsTrue, length};
 ghost use Rattle.std.specs.List.{AllPairs};
 ghost use Rattle.dk_base.specs.Values.{values_of};
 ghost use Rattle.dk_base.specs.declared.kinds.VarId.{VarId};
@@ -8,7 +8,7 @@ ghost use Rattle.dk_engine.specs.Feeding.{with_sample};
 ghost use Rattle.dk_engine.specs.Idle.{PassesStill, skip_in};
 ghost use Rattle.dk_engine.specs.Narrow.{is_in_run};
 ghost use Rattle.dk_engine.specs.Parts.{slot_in};
-ghost use Rattle.dk_engine.specs.Step.{IsPlaced, can_close};
+ghost use Rattle.dk_engine.specs.Step.{IsPlaced};
 ghost use Rattle.dk_engine.specs.declared.slot.Slot.{Slot};
 ghost use Rattle.dk_grammar.specs.Runs.{AreSlots};
 ghost use Rattle.dk_template.specs.Proper.{IsProper};
