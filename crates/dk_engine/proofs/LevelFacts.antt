@@ -76,13 +76,19 @@ arranged symmetry.Arguments vars up =
     let last = last_ascends vars up in
     (order_stays Last vars last, state_stays Last vars last)
 
--- the state of constant leaders in written order, in one step
+-- the state of leaders in written order is what is read of them as they stand
+pub written_read : (n : ℕ) → 0 < n → (kept : Kept) (row : RowId) (vars : List VarId) → is_written row vars ≡ true → read_written kept (read_leaders (n - 1) kept) row vars ≡ read_leaders n kept row vars
+written_read n some kept row vars written =
+    let lower = read_leaders (n - 1) kept in
+    let told = arranged (template_of row).symmetry vars written in
+    ap (read_written kept lower row) (sym told.0) ∙ (sym (told.1 (read_written kept lower row (written_order row vars))) ∙ level_is n some kept row vars)
+
+-- of constants it is that of their tuple
 pub constants_read : (n : ℕ) → 0 < n → (kept : Kept) (row : RowId) (vars : List VarId) → is_written row vars ≡ true → all_known kept.known vars ≡ true → state_of_one row (known_tuple kept.known vars) ≡ read_leaders n kept row vars
 constants_read n some kept row vars written known =
     let lower = read_leaders (n - 1) kept in
-    let told = arranged (template_of row).symmetry vars written in
     sym (ap (λ b. if b then state_of_one row (known_tuple kept.known vars) else read_slot (slot_at kept.slots row vars) (is_suppressed lower row vars) (counted_by kept.held vars)) known)
-    ∙ (ap (read_written kept lower row) (sym told.0) ∙ (sym (told.1 (read_written kept lower row (written_order row vars))) ∙ level_is n some kept row vars))
+    ∙ written_read n some kept row vars written
 
 -- ---- any variables
 -- before the first sample each state is Empty
