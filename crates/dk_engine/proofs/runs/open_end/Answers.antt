@@ -22,7 +22,7 @@ loop-other-preserved c k from l =
     let at : item ≡ slot_in slots other = c.index-slots-other.is ∙ get_or_default slots other item no_slot within in
     let row : RowId = (slot_in slots place).row in
     let here : is_in_run true row (slot_in slots other) ≡ true =
-    subst (λ (s : Slot). is_in_run true row s ≡ true) at (subst (λ (s : Slot). is_in_run true s.row item ≡ true) at_first (sym c.is_in_run.ensures ∙ c.if-is_in_run.false)) in
+    subst (λ (s : Slot). is_in_run true row s ≡ true) at (subst (λ (s : Slot). is_in_run true s.row item ≡ true) at_first (sym c.is_in_run.ensures ∙ c.if-not-is_in_run.false)) in
     elim (cases_lt k other) as (λ _. is_in_run true row (slot_in slots k) ≡ true) [
       | inl lt ↦ c.loop-other.invariant k from lt
       | inr ge ↦ let same : other ≡ k = omega (arith, l, ge) in subst (λ i. is_in_run true row (slot_in slots i) ≡ true) same here
