@@ -65,12 +65,11 @@ arranged symmetry.All vars up =
     let last = ascends Last vars up in
     let first = ascends First vars up in
     let one = order_stays Last vars last in
-    let two = order_stays First vars first in
-    (
+    let two = order_stays First vars first in (
       ap (λ vs. order_tuple Last (order_tuple First vs)) one ∙ (ap (order_tuple Last) two ∙ one),
       λ t. state_stays Last vars last (exchanged_back First (order_tuple Last vars) (exchanged_back Last (order_tuple First (order_tuple Last vars)) t))
-      ∙ (ap (λ vs. exchanged_back First vs (exchanged_back Last (order_tuple First vs) t)) one
-      ∙ (state_stays First vars first (exchanged_back Last (order_tuple First vars) t) ∙ (ap (λ vs. exchanged_back Last vs t) two ∙ state_stays Last vars last t))),
+          ∙ (ap (λ vs. exchanged_back First vs (exchanged_back Last (order_tuple First vs) t)) one
+          ∙ (state_stays First vars first (exchanged_back Last (order_tuple First vars) t) ∙ (ap (λ vs. exchanged_back Last vs t) two ∙ state_stays Last vars last t))),
     )
 arranged symmetry.Arguments vars up =
     let last = last_ascends vars up in

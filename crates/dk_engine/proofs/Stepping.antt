@@ -87,12 +87,12 @@ module _ {grammar : Grammar} {infos : List VarInfo} {samples : List (List Value)
 
       still_open : list_any (λ (r : Rule). r.0.0 == slot.row.0 && asks_elements r) rules ≡ false → is_empty_state slot.state ≡ false → is_suppressed (fit_of more) slot.row slot.leaders ≡ false
       still_open none filled = false_from_ne_true (is_suppressed (fit_of more) slot.row slot.leaders) (λ closed.
-        let begun = begun_premise_suppresses samples sample slot.row slot.leaders had.unsuppressed closed in
-        let p = begun.0 in
-        let can = usable grammar infos slot.leaders slot.row had.over.admitted p begun.1 in
-        let empty = empty_alone_begins slot.row (row_of_grammar grammar slot.row had.over.of_grammar) slot.leaders p can.formed (row_of_grammar grammar (row_of p) can.row) can.roles
-        (about_no_elements slot.row p begun.1 none) samples sample begun.2 in
-        true≢false (sym (ap is_empty_state (had.state ∙ empty.1)) ∙ filled))
+          let begun = begun_premise_suppresses samples sample slot.row slot.leaders had.unsuppressed closed in
+          let p = begun.0 in
+          let can = usable grammar infos slot.leaders slot.row had.over.admitted p begun.1 in
+          let empty = empty_alone_begins slot.row (row_of_grammar grammar slot.row had.over.of_grammar) slot.leaders p can.formed (row_of_grammar grammar (row_of p) can.row) can.roles
+          (about_no_elements slot.row p begun.1 none) samples sample begun.2 in
+          true≢false (sym (ap is_empty_state (had.state ∙ empty.1)) ∙ filled))
 
   -- ---- a tuple without a slot before
   -- that isn't constant, broken or suppressed has a slot
