@@ -82,8 +82,8 @@ module _ {grammar : Grammar} {infos : List VarInfo} {samples : List (List Value)
       ]
     where
       full : (a b : Bool) → b ≡ true → (a && b) ≡ false → a ≡ false
-      full false b is no = refl
-      full true b is no = absurd (true≢false (sym is ∙ no))
+      full false b is shut_too = refl
+      full true b is shut_too = absurd (true≢false (sym is ∙ shut_too))
 
       still_open : list_any (λ (r : Rule). r.0.0 == slot.row.0 && asks_elements r) rules ≡ false → is_empty_state slot.state ≡ false → is_suppressed (fit_of more) slot.row slot.leaders ≡ false
       still_open none filled = false_from_ne_true (is_suppressed (fit_of more) slot.row slot.leaders) (λ closed.

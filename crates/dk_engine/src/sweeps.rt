@@ -38,7 +38,7 @@ impl<'a> Sweep<'a> {
         requires few { length vars.now ≤ 3 }
         ensures { OnOk result (slots.new ≡ slots.old ++ considered self.now.infos.now self.now.known.now (read_after self.now.answers.now.whole.kept self.now.answers.now.sample) row vars.now) }
     {
-        if !is_written(row, vars) || !admits(row, self.infos, vars) {
+        if !admits(row, self.infos, vars) || !is_written(row, vars) {
             return Ok(());
         }
         if self.answers.breaks(row, vars) {

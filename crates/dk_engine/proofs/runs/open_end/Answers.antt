@@ -1,5 +1,5 @@
-use Rattle.std.specs.Prelude.{◌≡◌, ◌<◌, length, true}
-use Rattle.std.proofs.Common.{◌∙◌, ap, arith, inl, inr, subst, sym}
+use Rattle.std.specs.Prelude.{◌≡◌, ◌<◌, length, slice_index_or, true}
+use Rattle.std.proofs.Common.{◌∙◌, arith, inl, inr, subst, sym}
 use Rattle.std.proofs.lemmas.Bool.{cases_lt}
 use Rattle.std.proofs.lemmas.List.{get_or_default}
 use Rattle.dk_template.specs.declared.grammar.RowId.{RowId}
@@ -18,7 +18,7 @@ loop-other-preserved c k from l =
     let within : other < length slots = omega (arith, test, most) in
     let first : Slot = c.index-slots-place.result in
     let item : Slot = c.index-slots-other.result in
-    let at_first : first ≡ slot_in slots place = c.index-slots-place.is ∙ get_or_default slots place first no_slot c.requires in
+    let at_first : slice_index_or slots place first ≡ slot_in slots place = get_or_default slots place first no_slot c.requires in
     let at : item ≡ slot_in slots other = c.index-slots-other.is ∙ get_or_default slots other item no_slot within in
     let row : RowId = (slot_in slots place).row in
     let here : is_in_run true row (slot_in slots other) ≡ true =

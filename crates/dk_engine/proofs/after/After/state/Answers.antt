@@ -1,4 +1,3 @@
-use Rattle.std.specs.Prelude.{◌≡◌}
 use Rattle.std.proofs.Common.{sym}
 use Rattle.dk_template.proofs.ProperStates.{proper_laws}
 use Rattle.dk_template.specs.Templates.{form_of}
