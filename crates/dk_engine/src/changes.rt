@@ -10,11 +10,12 @@ ghost use Rattle.dk_engine.specs.Feeding.{read_after, with_sample};
 ghost use Rattle.dk_engine.specs.Idle.{PassesStill};
 ghost use Rattle.dk_engine.specs.Narrow.{AreFound, AreFoundBelow, StateStays, closes, is_in_run, loses, loses_by, lost_places, may_begin, outcome};
 ghost use Rattle.dk_engine.specs.Parts.{slot_in};
-ghost use Rattle.dk_engine.specs.Step.{IsPlaced, can_close, is_empty_state, is_of_elements};
+ghost use Rattle.dk_engine.specs.Step.{IsPlaced, can_close, is_empty_conclusion, is_empty_state, is_of_elements};
 
 use crate::Slot;
 use crate::after::After;
 use crate::growing::{Growth, Seen, seen_with};
+use crate::reaching::is_concluded;
 use crate::runs::{passed_to, run_end, still_to};
 use crate::staying::is_of_bounds_or_comparisons;
 use dk_base::{List, NoMemory, View};
@@ -43,11 +44,18 @@ fn is_empty(state: &State) -> bool
     matches!(state, State::Empty)
 }
 
-// Whether a rule can begin to suppress the slot: it was Empty, or it asks for the least or the greatest element.
+// Whether the slot was Empty and a rule concludes its row.
+fn is_empty_conclusion(slot: &Slot) -> bool
+    ensures { result ≡ is_empty_conclusion slot.now }
+{
+    is_empty(&slot.state) && is_concluded(slot.row)
+}
+
+// Whether a rule can begin to suppress the slot: it was Empty and its row has a rule, or it asks for the least or the greatest element.
 pub(crate) fn can_close(slot: &Slot) -> bool
     ensures { result ≡ can_close slot.now }
 {
-    is_empty(&slot.state) || slot.row.0 == rows::ELT_NON_ZERO
+    is_empty_conclusion(slot) || slot.row.0 == rows::ELT_NON_ZERO
 }
 
 // Whether a rule begins to suppress the slot.

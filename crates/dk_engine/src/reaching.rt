@@ -1,6 +1,7 @@
-// Which rows a lost premise can free, by itself or through others.
+// Which rows a lost premise can free, by itself or through others, and which rows rules conclude.
 ghost use Rattle.std.specs.Prelude.{◌≡◌, map};
-ghost use Rattle.dk_engine.specs.Reached.{reached_by_number, rows_reached};
+ghost use Rattle.dk_suppress.specs.Rules.{has_rule};
+ghost use Rattle.dk_engine.specs.Reached.{concluded_by_number, reached_by_number, rows_reached};
 
 use dk_template::RowId;
 use dk_template::rows::{
@@ -105,5 +106,33 @@ pub(crate) fn rows_reached(row: RowId) -> &'static [RowId]
     match reached_rows().get(row.0 as usize) {
         Some(rows) => rows,
         None => &[],
+    }
+}
+
+// Whether a rule concludes each row, from 0 on; none concludes a row behind row 66.
+const CONCLUDED: &[bool] = &[
+    false, false, false, false, true, false, false, false, false, false, // 0 to 9
+    false, false, true, false, true, false, true, true, false, false, // 10 to 19
+    false, false, false, false, true, true, true, true, true, true, // 20 to 29
+    true, true, true, true, true, false, false, false, true, false, // 30 to 39
+    true, false, true, false, false, false, false, false, false, false, // 40 to 49
+    false, false, false, false, true, false, true, false, false, false, // 50 to 59
+    false, false, true, true, true, true, true, // 60 to 66
+];
+
+// Whether one concludes the rows 0 to 66.
+fn concluded_rows() -> &'static [bool]
+    ensures { result.now ≡ concluded_by_number }
+{
+    CONCLUDED
+}
+
+/// Whether a rule concludes the row.
+pub(crate) fn is_concluded(row: RowId) -> bool
+    ensures { result ≡ has_rule row }
+{
+    match concluded_rows().get(row.0 as usize) {
+        Some(concluded) => *concluded,
+        None => false,
     }
 }

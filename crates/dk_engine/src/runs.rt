@@ -1,5 +1,5 @@
 // Runs of slots that a sample leaves as they are, found without looking at the row of each.
-ghost use Rattle.std.specs.Prelude.{◌≡◌, ◌<◌, ◌≤◌, ℕ, true, false, All, IsTrue, length};
+ghost use Rattle.std.specs.Prelude.{◌≡◌, ◌<◌, ◌≤◌, ℕ, true, All, IsTrue, length};
 ghost use Rattle.std.specs.List.{AllPairs};
 ghost use Rattle.dk_base.specs.Values.{values_of};
 ghost use Rattle.dk_base.specs.declared.kinds.VarId.{VarId};
@@ -8,7 +8,7 @@ ghost use Rattle.dk_engine.specs.Feeding.{with_sample};
 ghost use Rattle.dk_engine.specs.Idle.{PassesStill, skip_in};
 ghost use Rattle.dk_engine.specs.Narrow.{is_in_run};
 ghost use Rattle.dk_engine.specs.Parts.{slot_in};
-ghost use Rattle.dk_engine.specs.Step.{IsPlaced, can_close};
+ghost use Rattle.dk_engine.specs.Step.{IsPlaced};
 ghost use Rattle.dk_engine.specs.declared.slot.Slot.{Slot};
 ghost use Rattle.dk_grammar.specs.Runs.{AreSlots};
 ghost use Rattle.dk_template.specs.Proper.{IsProper};
@@ -92,17 +92,39 @@ fn end_of_row(ends: &[usize], slots: &[Slot], place: usize) -> usize
     }
 }
 
-// Up to where the slots from one place to another can't close.
-fn open_end(slots: &[Slot], from: usize, to: usize) -> usize
-    requires from { from ≤ to }
-    requires to { to ≤ length slots.now }
-    ensures from { from ≤ result }
-    ensures to { result ≤ to }
-    ensures stay_open { (k : ℕ) → from ≤ k → k < result → can_close (slot_in slots.now k) ≡ false }
+// Whether the slot is of a row and can't close.
+fn is_in_run(row: RowId, slot: &Slot) -> bool
+    ensures { result ≡ is_in_run true row slot.now }
 {
-    for place in from..to {
-        if can_close(&slots[place]) {
-            return place;
+    slot.row.0 == row.0 && !can_close(slot)
+}
+
+// Up to where slots from a place on are taken together.
+fn reach_of(slots: &[Slot], place: usize) -> usize
+    requires { place < length slots.now }
+    ensures from { place < result }
+    ensures to { result ≤ length slots.now }
+{
+    if slots.len() - place <= REACH {
+        slots.len()
+    } else {
+        place + REACH
+    }
+}
+
+// Up to where the slots from a place on are of its row and can't close, of as many as are taken together. They are looked at anyway, so
+// the end of the row isn't sought.
+fn open_end(slots: &[Slot], place: usize) -> usize
+    requires { place < length slots.now }
+    ensures from { place ≤ result }
+    ensures to { result ≤ length slots.now }
+    ensures run { (k : ℕ) → place ≤ k → k < result → is_in_run true (slot_in slots.now place).row (slot_in slots.now k) ≡ true }
+{
+    let row = slots[place].row;
+    let to = reach_of(slots, place);
+    for other in place..to {
+        if !is_in_run(row, &slots[other]) {
+            return other;
         }
     }
     to
@@ -117,11 +139,10 @@ pub(crate) fn run_end(asked: bool, ends: &[usize], slots: &[Slot], place: usize)
     ensures to { result ≤ length slots.now }
     ensures run { (k : ℕ) → place ≤ k → k < result → is_in_run asked (slot_in slots.now place).row (slot_in slots.now k) ≡ true }
 {
-    let end = end_of_row(ends, slots, place);
     if asked {
-        open_end(slots, place, end)
+        open_end(slots, place)
     } else {
-        end
+        end_of_row(ends, slots, place)
     }
 }
 

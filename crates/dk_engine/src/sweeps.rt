@@ -17,9 +17,7 @@ use crate::{Slot, Slots};
 use dk_base::{NoMemory, VarId, VarInfo};
 use dk_constants::Constants;
 use dk_suppress::suppressed;
-use dk_template::{
-    Answers, Grammar, Role, RowId, State, Takes, Tuple, admits, is_written, template_at,
-};
+use dk_template::{Grammar, Role, RowId, State, Takes, Tuple, admits, is_written, template_at};
 use dk_ternary::Operation;
 use std::alloc::Global;
 
@@ -40,10 +38,16 @@ impl<'a> Sweep<'a> {
         requires few { length vars.now ≤ 3 }
         ensures { OnOk result (slots.new ≡ slots.old ++ considered self.now.infos.now self.now.known.now (read_after self.now.answers.now.whole.kept self.now.answers.now.sample) row vars.now) }
     {
-        if !admits(row, self.infos, vars) || !is_written(row, vars) || are_known(self.known, vars) {
+        if !admits(row, self.infos, vars) || !is_written(row, vars) {
             return Ok(());
         }
-        let state = self.answers.answer(row, vars)?;
+        if self.answers.breaks(row, vars) {
+            return Ok(());
+        }
+        if are_known(self.known, vars) {
+            return Ok(());
+        }
+        let state = self.answers.unbroken_state(row, vars)?;
         if matches!(state, State::Broken) || suppressed(row, vars, self.answers) {
             return Ok(());
         }
