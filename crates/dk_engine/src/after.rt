@@ -107,7 +107,7 @@ impl<'a> After<'a> {
         self.alloc
     }
 
-    /// Where rows of kept slots end, as far as it is noted.
+    /// Where rows of kept slots end, as far as it is noted: not where few slots aren't passed over.
     pub(crate) fn ends(&self) -> &[usize] {
         let engine = self.engine;
         engine.kept.slots.ends()

@@ -1,5 +1,5 @@
 // The slots that a sample changes.
-ghost use Rattle.std.specs.Prelude.{◌≡◌, ◌≢◌, ◌<◌, ◌≤◌, ◌+◌, ◌++◌, ◌∷◌, ◌&&◌, ℕ, [], true, false, All, IfNone, IfOk, IfSome, OnOk, length};
+ghost use Rattle.std.specs.Prelude.{◌≡◌, ◌≢◌, ◌<◌, ◌≤◌, ◌+◌, ◌++◌, ◌∷◌, ◌&&◌, ℕ, [], true, false, All, IfNone, IfOk, IfSome, IsTrue, OnOk, length};
 ghost use Rattle.std.specs.List.{AllPairs, list_any};
 ghost use Rattle.dk_base.specs.Values.{values_of};
 ghost use Rattle.dk_forms.specs.declared.states.State.TheVariants.{Broken};
@@ -177,6 +177,39 @@ fn push_found(
     }
 }
 
+// Whether the slots of a row are looked at one by one: bounds and comparisons, and planes where some of them are passed over.
+fn are_looked_at(row: RowId, skips: &[usize]) -> bool {
+    is_of_bounds_or_comparisons(row) || row.0 == 67 && !skips.is_empty()
+}
+
+// The same of a slot of any row: one of a row of which nothing is seen is asked whether it stays.
+#[inline(always)]
+fn push_any(
+    after: &After<'_>,
+    asked: bool,
+    skips: &[usize],
+    sample: &[View<'_>],
+    slots: &[Slot],
+    place: usize,
+    found: &mut Found,
+) -> Result<(), NoMemory>
+    requires placed { All (λ slot. IsPlaced after.now.whole.grammar after.now.whole.infos after.now.whole.kept.leaders slot.row slot.leaders) slots.now }
+    requires sample { values_of sample.now ≡ after.now.sample }
+    requires proper { All (λ slot. IsProper (form_of slot.row) slot.state) slots.now }
+    requires unbroken { All (λ slot. slot.state ≢ Broken) slots.now }
+    requires within { place < length slots.now }
+    requires stays_open { (asked && can_close (slot_in slots.now place)) ≡ false }
+    requires below { AreFoundBelow place (outcome asked (read_after after.now.whole.kept after.now.sample) after.now.sample) slots.now found.old }
+    ensures { OnOk result (AreFoundBelow (place + 1) (outcome asked (read_after after.now.whole.kept after.now.sample) after.now.sample) slots.now found.new) }
+{
+    let row = slots[place].row;
+    if are_looked_at(row, skips) {
+        push_found(after, asked, sample, slots, place, found)
+    } else {
+        add_change(after, asked, slots, place, found)
+    }
+}
+
 // With what the sample makes of the slots from a place up to another, which can't close where it is asked, behind what it makes of those
 // in front of them. Slots that are passed over aren't looked at, the others one by one.
 fn add_seen(
@@ -201,15 +234,10 @@ fn add_seen(
     let sample = after.sample();
     let mut place = passed_to(skips, from, to);
     while place < to {
-        push_found(after, asked, sample, slots, place, found)?;
+        push_any(after, asked, skips, sample, slots, place, found)?;
         place = passed_to(skips, place + 1, to);
     }
     Ok(())
-}
-
-// Whether the slots of a row are looked at one by one: bounds and comparisons, and planes where some of them are passed over.
-fn are_looked_at(row: RowId, skips: &[usize]) -> bool {
-    is_of_bounds_or_comparisons(row) || row.0 == 67 && !skips.is_empty()
 }
 
 // With the changes of a run of slots, from a place up to another, behind those of the slots in front of it.
@@ -324,7 +352,36 @@ impl Found {
     }
 }
 
-/// The same, if they are few.
+// Whether the slots that aren't passed over are looked at in one walk: it isn't asked which ones close, and they are few, so that it isn't
+// noted where rows end.
+fn are_walked(after: &After<'_>, asked: bool, skips: &[usize]) -> bool
+    ensures { IsTrue result → asked ≡ false }
+{
+    !asked && (!skips.is_empty() && after.ends().is_empty())
+}
+
+// The growths and changes of the slots that aren't passed over, where it isn't asked which ones close.
+fn unpassed_changes(
+    alloc: Global,
+    after: &After<'_>,
+    asked: bool,
+    skips: &[usize],
+    slots: &[Slot],
+) -> Result<Found, NoMemory>
+    requires shut { asked ≡ false }
+    requires placed { All (λ slot. IsPlaced after.now.whole.grammar after.now.whole.infos after.now.whole.kept.leaders slot.row slot.leaders) slots.now }
+    requires skips { PassesStill after.now.sample slots.now skips.now }
+    requires proper { All (λ slot. IsProper (form_of slot.row) slot.state) slots.now }
+    requires unbroken { All (λ slot. slot.state ≢ Broken) slots.now }
+    ensures { IfOk result (AreFound (outcome asked (read_after after.now.whole.kept after.now.sample) after.now.sample) slots.now) }
+{
+    let mut found = Found::none(alloc);
+    add_seen(after, asked, skips, slots, 0, slots.len(), &mut found)?;
+    Ok(found)
+}
+
+/// The growths and changes of the slots, if they are few. Where few slots are left that aren't passed over, they are looked at in one walk,
+/// without a look at where rows end.
 pub(crate) fn few_changes(
     alloc: Global,
     after: &After<'_>,
@@ -339,6 +396,10 @@ pub(crate) fn few_changes(
     requires unbroken { All (λ slot. slot.state ≢ Broken) slots.now }
     ensures { IfOk result (λ few. IfSome few (AreFound (outcome asked (read_after after.now.whole.kept after.now.sample) after.now.sample) slots.now)) }
 {
+    if are_walked(after, asked, skips) {
+        let few = unpassed_changes(alloc, after, asked, skips, slots)?;
+        return Ok(Some(few));
+    }
     let mut found = Found::none(alloc);
     let mut place = 0;
     while place < slots.len() {

@@ -41,8 +41,8 @@ struct Places {
     left: usize,
 }
 
-/// What is noted of slots: what a sample is asked, and for each place, up to where the slots from there on are passed over, and where
-/// those of its row end.
+/// What is noted of slots: what a sample is asked, and for each place, up to where the slots from there on are passed over, and, unless few
+/// aren't, where those of its row end.
 #[derive(Drop)]
 pub(crate) struct Notes {
     pub(crate) watch: Watch,
@@ -593,6 +593,28 @@ pub(crate) fn is_passed(skips: &[usize], place: usize) -> bool
     place < skip_at(skips, place)
 }
 
+// How many slots that aren't passed over are few.
+const FEW: usize = 64;
+
+// Whether few aren't passed over.
+fn are_few_left(skips: &[usize]) -> bool {
+    let mut left: usize = 0;
+    for place in 0..skips.len() {
+        if !is_passed(skips, place) {
+            left = left.saturating_add(1);
+        }
+    }
+    left <= FEW
+}
+
+// Where rows end, unless few slots aren't passed over: these are looked at one by one.
+fn ends_among(alloc: Global, skips: &[usize], slots: &[Slot]) -> Result<Vec<usize>, NoMemory> {
+    if are_few_left(skips) {
+        return Ok(Vec::new(alloc));
+    }
+    ends_of(alloc, slots)
+}
+
 // The slot at the place is passed over, with those behind it that are.
 fn note(skips: &mut [usize], place: usize)
     requires { place < length skips.old }
@@ -686,7 +708,7 @@ impl Notes {
             compared,
         };
         let skips = skips_of(alloc, &watch, places, slots)?;
-        let ends = ends_of(alloc, slots)?;
+        let ends = ends_among(alloc, skips.as_slice(), slots)?;
         Ok(Notes { watch, skips, ends })
     }
 }

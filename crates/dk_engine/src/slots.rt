@@ -164,7 +164,7 @@ impl Slots {
         }
     }
 
-    // Where rows end, as far as it is noted.
+    // Where rows end, as far as it is noted: not where few slots aren't passed over.
     pub(crate) fn ends(&self) -> &[usize] {
         self.notes.ends.as_slice()
     }

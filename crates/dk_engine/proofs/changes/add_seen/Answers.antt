@@ -37,4 +37,4 @@ loop-place-preserved c =
     let next = c.passed_to-place-in-loop-place.result in
     let still : StayBetween (place + 1) next (outcome asked after o.sample) slots =
     passed_stay asked after o.sample slots c.requires.unbroken from to c.requires.to c.requires.stay_open c.args.skips.now c.requires.skips (place + 1) next (omega (arith, first)) told.to told.passed in
-    (found_stay (outcome asked after o.sample) slots (place + 1) c.push_found.new.found c.in_ok-push_found.ensures next still, omega (arith, first, behind), told.to)
+    (found_stay (outcome asked after o.sample) slots (place + 1) c.push_any.new.found c.in_ok-push_any.ensures next still, omega (arith, first, behind), told.to)
