@@ -1,26 +1,29 @@
--- Stretches of a line that grow, as changes.
-use Rattle.std.specs.Prelude.{◌≡◌, ◌≢◌, ◌⊎◌, ◌<◌, ◌+◌, ◌&&◌, ◌||◌, ◌==◌, ◌++◌, ◌∷◌, ℕ, ℤ, Bool, false, not, All, Contains, IfSome, List, Option, Some, [], cond, filter, fold, length, map, refl, slice_set}
+-- Stretches of a line and greatest values that grow, as changes.
+use Rattle.std.specs.Prelude.{◌≡◌, ◌≢◌, ◌⊎◌, ◌<◌, ◌+◌, ◌&&◌, ◌||◌, ◌==◌, ◌++◌, ◌∷◌, ℕ, ℤ, pos, negsuc, Bool, true, false, not, int_le, int_lt, All, Contains, IfSome, List, Option, Some, [], cond, filter, fold, length, map, refl, slice_set}
 use Rattle.std.specs.List.{list_any}
 use Rattle.std.proofs.Common.{◌∙◌, ap, arith, get_or, inl, inr, subst, sym}
-use Rattle.std.proofs.lemmas.Bool.{cases_eq, cases_lt}
+use Rattle.std.proofs.lemmas.Bool.{cases_eq, cases_lt, false≢true}
+use Rattle.std.proofs.lemmas.Int.{ints}
 use Rattle.std.proofs.lemmas.List.{append_assoc, get_or-set_other, get_or-set_same, map-append, set_past}
 use Rattle.std.proofs.lemmas.List.Elements.{All-append, All-contains, All-head, All-nil, All-push, All-tail, All-weaker, Contains-append_cases, Contains-append_left, Contains-append_right, Contains-get_or, Contains-push, filter-append}
 use Rattle.std.proofs.lemmas.List.Folds.{list_any-append}
 use Rattle.std.proofs.lemmas.List.Sums.{fold-append}
 use Rattle.dk_base.specs.declared.values.Value.{Value}
 use Rattle.dk_forms.specs.declared.states.State.{State}
-use Rattle.dk_forms.specs.declared.states.State.TheVariants.{Broken, Span}
-use Rattle.dk_suppress.specs.Rules.{asked_of, rules}
+use Rattle.dk_forms.specs.declared.states.State.TheVariants.{Broken, Greatest, Span}
+use Rattle.dk_suppress.specs.Rules.{asked_of, greatest, rules}
 use Rattle.dk_template.specs.Premises.{suffices}
+use Rattle.dk_template.specs.declared.answers.Premise.{Premise}
 use Rattle.dk_template.specs.declared.grammar.RowId.{RowId}
 use Rattle.dk_ternary.specs.Rows.{linear_ternary_row}
 use Rattle.dk_engine.proofs.Losing.{asked_lose}
 use Rattle.dk_engine.proofs.Narrowing.{change_more, no_changes, stay_more, stays_more}
 use Rattle.dk_engine.proofs.Running.{no_and, outcome_of_shut}
+use Rattle.dk_engine.specs.Bounding.{is_unasked}
 use Rattle.dk_engine.specs.Feeding.{is_broken, with_sample}
-use Rattle.dk_engine.specs.Narrow.{AreChangesBelow, AreFoundBelow, IsChange, IsGrown, IsGrowth, StateStays, StayBetween, change_by, found_changes, grown_state, loses, loses_by, lost_places, may_begin, outcome, prolonged, with_change, with_growth, with_state}
+use Rattle.dk_engine.specs.Narrow.{AreChangesBelow, AreFoundBelow, GrowsFreely, IsChange, IsGrown, IsGrowth, IsRisen, StateStays, StayBetween, change_by, found_changes, grown_state, loses, loses_by, lost_places, may_begin, outcome, prolonged, with_change, with_growth, with_state}
 use Rattle.dk_engine.specs.Parts.{no_slot, slot_in}
-use Rattle.dk_engine.specs.Step.{Answer, can_close, is_empty_state}
+use Rattle.dk_engine.specs.Step.{Answer, can_close, is_empty_state, is_of_elements}
 use Rattle.dk_engine.specs.declared.changes.Change.{Change}
 use Rattle.dk_engine.specs.declared.changes.Found.{Found}
 use Rattle.dk_engine.specs.declared.growing.Growth.{Growth}
@@ -46,15 +49,61 @@ planar_loses row e old new =
     let same : row ≡ linear_ternary_row = ap (λ (n : ℕ). (let r : RowId = record { 0 = n } in r)) e in
     sym (asked_lose row old new) ∙ (ap (λ r. list_any (λ p. suffices p old && not (suffices p new)) (asked_of r)) same ∙ ap (list_any (λ p. suffices p old && not (suffices p new))) planar_asked)
 
+-- ---- no rule asks about a greatest value above 1
+abbrev upper_row : RowId
+upper_row = record { 0 = 3 }
+
+upper_asked : asked_of upper_row ≡ greatest 3 0 (negsuc 0) ∷ greatest 3 0 (pos 1) ∷ []
+unfolding asked_of rules
+upper_asked = refl
+
+above_negative : (g : ℤ) → int_lt (pos 1) g ≡ true → int_le g (negsuc 0) ≡ false
+above_negative (pos n) h = refl
+above_negative (negsuc n) h = absurd (false≢true h)
+
+above_one : (g : ℤ) → int_lt (pos 1) g ≡ true → int_le g (pos 1) ≡ false
+above_one g h = grind (arith, ints)
+
+upper_loses : (row : RowId) → row.0 ≡ 3 → (old new : State) → is_unasked old ≡ true → loses row old new ≡ false
+upper_loses row e (Greatest g) new h =
+    let same : row ≡ upper_row = ap (λ (n : ℕ). (let r : RowId = record { 0 = n } in r)) e in
+    let still : Premise → Bool = λ p. not (suffices p new) in
+    let none : ((int_le g (negsuc 0) && still (greatest 3 0 (negsuc 0))) || ((int_le g (pos 1) && still (greatest 3 0 (pos 1))) || false)) ≡ false =
+    ap (λ b. (b && still (greatest 3 0 (negsuc 0))) || ((int_le g (pos 1) && still (greatest 3 0 (pos 1))) || false)) (above_negative g h)
+    ∙ ap (λ b. (b && still (greatest 3 0 (pos 1))) || false) (above_one g h) in
+    sym (asked_lose row (Greatest g) new)
+    ∙ (ap (λ r. list_any (λ p. suffices p (Greatest g) && not (suffices p new)) (asked_of r)) same
+    ∙ (ap (list_any (λ p. suffices p (Greatest g) && not (suffices p new))) upper_asked ∙ none))
+upper_loses row e _ new h = absurd (false≢true h)
+
+free_loses : (slot : Slot) → GrowsFreely slot → (new : State) → loses slot.row slot.state new ≡ false
+free_loses slot free new = elim free as (λ _. loses slot.row slot.state new ≡ false) [
+  | inl e ↦ planar_loses slot.row e slot.state new
+  | inr u ↦ upper_loses slot.row u.0 slot.state new u.1
+]
+
+-- nor about elements
+free_begins : (slot : Slot) → GrowsFreely slot → (is_empty_state slot.state && is_of_elements slot.row) ≡ false
+free_begins slot free = elim free as (λ _. (is_empty_state slot.state && is_of_elements slot.row) ≡ false) [
+  | inl e ↦ ap (λ (n : ℕ). is_empty_state slot.state && (n == 36 || n == 37)) e ∙ no_and (is_empty_state slot.state) false refl
+  | inr u ↦ ap (λ (n : ℕ). is_empty_state slot.state && (n == 36 || n == 37)) u.0 ∙ no_and (is_empty_state slot.state) false refl
+]
+
+-- a greatest value is raised
+unasked_raised : (s : State) → is_unasked s ≡ true → (x y z : ℤ) → prolonged s x y z ≡ Greatest x
+unasked_raised (Greatest g) h x y z = refl
+unasked_raised _ h x y z = absurd (false≢true h)
+
+unasked_unbroken : (s : State) → is_unasked s ≡ true → s ≢ Broken
+unasked_unbroken s h b = false≢true (sym (ap is_unasked b) ∙ h)
+
 module _ (slots : List Slot) where
   -- ---- a growth as a change
   grown_loses : (g : Growth) → IsGrowth slots g → loses_by slots (change_by slots g) ≡ false
-  grown_loses g is = let slot = slot_in slots g.place in planar_loses slot.row is.row slot.state (grown_state slot g)
+  grown_loses g is = let slot = slot_in slots g.place in free_loses slot is.free (grown_state slot g)
 
   grown_begins : (g : Growth) → IsGrowth slots g → may_begin slots (change_by slots g) ≡ false
-  grown_begins g is =
-      let slot = slot_in slots g.place in
-      ap (λ (n : ℕ). is_empty_state slot.state && (n == 36 || n == 37)) is.row ∙ no_and (is_empty_state slot.state) false refl
+  grown_begins g is = free_begins (slot_in slots g.place) is.free
 
   grown_unbroken : (g : Growth) → IsGrowth slots g → is_broken (change_by slots g).state ≡ false
   grown_unbroken g is = prolonged_unbroken (slot_in slots g.place).state g.x g.y g.z is.unbroken
@@ -219,19 +268,28 @@ module _ (asked : Bool) (after : Answer) (sample : List Value) (slots : List Slo
   pub found_still : new_state ≡ slot.state → slot.state ≢ Broken → AreFoundBelow (place + 1) (outcome asked after sample) slots found
   found_still still whole = found_stays (outcome asked after sample) slots place found are (made ∙ still, whole)
 
-  pub found_grown : (growth : Growth) → IsGrown slot new_state place growth → (more : Found) → more.growths ≡ found.growths ++ growth ∷ [] → more.changes ≡ found.changes
-      → AreFoundBelow (place + 1) (outcome asked after sample) slots more
-  found_grown growth is more e h =
-      let there : slot_in slots growth.place ≡ slot = ap (slot_in slots) is.at in
+  grows_to : (growth : Growth) → growth.place ≡ place → GrowsFreely slot → slot.state ≢ Broken → grown_state slot growth ≡ new_state
+      → (more : Found) → more.growths ≡ found.growths ++ growth ∷ [] → more.changes ≡ found.changes → AreFoundBelow (place + 1) (outcome asked after sample) slots more
+  grows_to growth at free unbroken state more e h =
+      let there : slot_in slots growth.place ≡ slot = ap (slot_in slots) at in
       let grows : IsGrowth slots growth = record {
-        row = ap (λ (s : Slot). s.row.0) there ∙ is.row;
-        unbroken = λ b. is.unbroken (ap (λ (s : Slot). s.state) (sym there) ∙ b);
+        free = subst GrowsFreely (sym there) free;
+        unbroken = λ b. unbroken (ap (λ (s : Slot). s.state) (sym there) ∙ b);
       } in
       let change : IsChange (outcome asked after sample) slots (change_by slots growth) = record {
-        within = subst (λ k. k < length slots) (sym is.at) within;
-        state = ap (λ (s : Slot). grown_state s growth) there ∙ (is.state ∙ (sym made ∙ ap (outcome asked after sample) (sym there)));
+        within = subst (λ k. k < length slots) (sym at) within;
+        state = ap (λ (s : Slot). grown_state s growth) there ∙ (state ∙ (sym made ∙ ap (outcome asked after sample) (sym there)));
       } in
-      found_growth (outcome asked after sample) slots place found are more growth e h is.at grows change
+      found_growth (outcome asked after sample) slots place found are more growth e h at grows change
+
+  pub found_grown : (growth : Growth) → IsGrown slot new_state place growth → (more : Found) → more.growths ≡ found.growths ++ growth ∷ [] → more.changes ≡ found.changes
+      → AreFoundBelow (place + 1) (outcome asked after sample) slots more
+  found_grown growth is = grows_to growth is.at (inl is.row) is.unbroken is.state
+
+  pub found_risen : (growth : Growth) → growth.place ≡ place → IsRisen slot new_state growth.x → (more : Found) → more.growths ≡ found.growths ++ growth ∷ [] → more.changes ≡ found.changes
+      → AreFoundBelow (place + 1) (outcome asked after sample) slots more
+  found_risen growth at is =
+      grows_to growth at (inr (is.row, is.unasked)) (unasked_unbroken slot.state is.unasked) (unasked_raised slot.state is.unasked growth.x growth.y growth.z ∙ is.state)
 
   pub found_joined : (more : Found) → more.growths ≡ found.growths → more.changes ≡ found.changes ++ record { place = place; state = new_state } ∷ []
       → AreFoundBelow (place + 1) (outcome asked after sample) slots more

@@ -1,6 +1,8 @@
 -- A greatest value with a number more.
-use Rattle.std.specs.Prelude.{◌≡◌, ℤ, ◌∷◌, [], List, refl}
-use Rattle.std.proofs.Common.{◌∙◌, ap, sym}
+use Rattle.std.specs.Prelude.{◌≡◌, ℤ, pos, true, false, ◌∷◌, [], List, cond, int_le, int_lt, refl}
+use Rattle.std.proofs.Common.{◌∙◌, ap, arith, sym}
+use Rattle.std.proofs.lemmas.Bool.{and_parts, false≢true}
+use Rattle.std.proofs.lemmas.Int.{ints}
 use Rattle.dk_base.specs.Tuples.{int_of, value_at}
 use Rattle.dk_base.specs.declared.kinds.VarId.{VarId}
 use Rattle.dk_base.specs.declared.values.Value.{Value}
@@ -8,12 +10,14 @@ use Rattle.dk_base.specs.declared.values.Value.TheVariants as value
 use Rattle.dk_fits.specs.Fits.{tuple_in}
 use Rattle.dk_forms.specs.Greatest.{greatest_join, greatest_of}
 use Rattle.dk_forms.specs.declared.states.State.{State}
+use Rattle.dk_forms.specs.declared.states.State.TheVariants.{Greatest}
 use Rattle.dk_rows.specs.Meanings.{meanings, state_of}
 use Rattle.dk_samples.specs.Samples.{value_in}
 use Rattle.dk_template.specs.Templates.{form_of, rows}
 use Rattle.dk_template.specs.declared.grammar.RowId.{RowId}
 use Rattle.dk_template.specs.declared.templates.StateForm.TheVariants as form
 use Rattle.dk_engine.proofs.OneTuple.{slot_by, with_tuple}
+use Rattle.dk_engine.specs.Bounding.{is_unasked, rises_to}
 use Rattle.dk_engine.specs.Feeding.{with_sample}
 use Rattle.dk_engine.specs.declared.slot.Slot.{Slot}
 
@@ -39,3 +43,13 @@ upper_sample v sample x at s =
 pub upper_slot : (slot : Slot) → slot.row.0 ≡ 3 → (v : VarId) → slot.leaders ≡ v ∷ [] → (sample : List Value) (x : ℤ) → value_in sample v ≡ value.Int x
     → greatest_join slot.state (greatest_of (x ∷ [])) ≡ with_sample slot.row slot.leaders sample slot.state
 upper_slot slot e v over sample x at = upper_sample v sample x at slot.state ∙ sym (slot_by slot 3 e (v ∷ []) over sample)
+
+-- ---- a greatest value that rises to a number
+greatest_raised : (g x : ℤ) → int_le g x ≡ true → Greatest x ≡ greatest_join (Greatest g) (greatest_of (x ∷ []))
+greatest_raised g x le = let no : int_lt x g ≡ false = grind (arith, ints) in sym (ap (λ b. Greatest (cond b g x)) no)
+
+pub risen_state : (s : State) (x : ℤ) → rises_to s x ≡ true → (is_unasked s ≡ true) × (Greatest x ≡ greatest_join s (greatest_of (x ∷ [])))
+risen_state (Greatest g) x h =
+    let p = and_parts (int_lt (pos 1) g) (int_le g x) h in
+    (p.0, greatest_raised g x p.1)
+risen_state _ x h = absurd (false≢true h)

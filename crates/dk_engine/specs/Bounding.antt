@@ -1,5 +1,5 @@
 -- Bounds of numbers and comparisons of two that a number, or two, leave as they are.
-use Rattle.std.specs.Prelude.{◌==◌, ℕ, ℤ, Bool, true, false, if◌then◌else◌, int_le, int_lt, not}
+use Rattle.std.specs.Prelude.{◌==◌, ◌&&◌, ℕ, ℤ, pos, Bool, true, false, if◌then◌else◌, int_le, int_lt, not}
 use Rattle.std.specs.Ordering.{int_eq}
 use Rattle.dk_forms.specs.declared.states.State.{State}
 use Rattle.dk_forms.specs.declared.states.State.TheVariants.{Greatest, Holds, Least}
@@ -13,6 +13,16 @@ keeps_least _ x = false
 abbrev pub keeps_greatest : State → ℤ → Bool
 keeps_greatest (Greatest g) x = int_le x g
 keeps_greatest _ x = false
+
+-- a greatest value of which no rule asks: rules ask whether it is at most -1, and whether it is at most 1
+abbrev pub is_unasked : State → Bool
+is_unasked (Greatest g) = int_lt (pos 1) g
+is_unasked _ = false
+
+-- such a value that isn't above the number
+abbrev pub rises_to : State → ℤ → Bool
+rises_to (Greatest g) x = int_lt (pos 1) g && int_le g x
+rises_to _ x = false
 
 abbrev pub is_holds : State → Bool
 is_holds Holds = true

@@ -8,12 +8,13 @@ use Rattle.dk_classes.specs.Leaders.{own_leaders}
 use Rattle.dk_constants.specs.Known.{Entries}
 use Rattle.dk_forms.specs.Plane.{is_before}
 use Rattle.dk_forms.specs.declared.states.State.{State}
-use Rattle.dk_forms.specs.declared.states.State.TheVariants.{Broken, Span}
+use Rattle.dk_forms.specs.declared.states.State.TheVariants.{Broken, Greatest, Span}
 use Rattle.dk_presence.specs.Patterns.{pattern_count, present_in}
 use Rattle.dk_suppress.specs.Rules.{Rule, is_suppressed, rules}
 use Rattle.dk_template.specs.Premises.{row_of, suffices}
 use Rattle.dk_template.specs.declared.grammar.Grammar.{Grammar}
 use Rattle.dk_template.specs.declared.grammar.RowId.{RowId}
+use Rattle.dk_engine.specs.Bounding.{is_unasked}
 use Rattle.dk_engine.specs.Choices.{other_leaders, touching_leaders}
 use Rattle.dk_engine.specs.Exact.{SlotBefore}
 use Rattle.dk_engine.specs.Feeding.{is_broken, parts_after, read_after, with_sample}
@@ -24,7 +25,7 @@ use Rattle.dk_engine.specs.declared.changes.Change.{Change}
 use Rattle.dk_engine.specs.declared.changes.Found.{Found}
 use Rattle.dk_engine.specs.declared.growing.Growth.{Growth}
 use Rattle.dk_engine.specs.declared.growing.Seen.{Seen}
-use Rattle.dk_engine.specs.declared.growing.Seen.TheVariants.{Grows, Neither, Stays}
+use Rattle.dk_engine.specs.declared.growing.Seen.TheVariants.{Grows, Neither, Rises, Stays}
 use Rattle.dk_engine.specs.Sweeps.{freed_slots, touched_slots}
 use Rattle.dk_engine.specs.declared.kept.Kept.{Kept}
 use Rattle.dk_engine.specs.declared.now.Now.{Now}
@@ -78,10 +79,11 @@ AreChanges made slots changes = AreChangesBelow (length slots) made slots change
 abbrev pub with_change : List Slot → Change → List Slot
 with_change slots change = slice_set slots change.place (with_state (slot_in slots change.place) change.state)
 
--- ---- stretches of a line that grow
--- a stretch of a line, with another last point
+-- ---- stretches of a line and greatest values that grow
+-- a stretch of a line, with another last point, or a greatest value, with another number
 abbrev pub prolonged : State → ℤ → ℤ → ℤ → State
 prolonged (Span x1 y1 z1 x2 y2 z2) x y z = Span x1 y1 z1 x y z
+prolonged (Greatest greatest) x y z = Greatest x
 prolonged state x y z = state
 
 -- the state isn't a stretch of a line that ends before the point
@@ -100,10 +102,17 @@ pub record IsGrown (slot : Slot) (made : State) (place : ℕ) (growth : Growth) 
   pub unbroken : slot.state ≢ Broken
   pub state : grown_state slot growth ≡ made
 
+-- a greatest value of which no rule asks gets this number as the state that is made of it
+pub record IsRisen (slot : Slot) (made : State) (x : ℤ) : Type 0 where
+  pub row : slot.row.0 ≡ 3
+  pub unasked : is_unasked slot.state ≡ true
+  pub state : Greatest x ≡ made
+
 -- what is seen of the slot at a place and the state that is made of it
 abbrev pub IsSeen : Slot → State → ℕ → Seen → Type 0
 IsSeen slot made place Stays = made ≡ slot.state
 IsSeen slot made place (Grows growth) = IsGrown slot made place growth
+IsSeen slot made place (Rises x) = IsRisen slot made x
 IsSeen slot made place Neither = ⊤
 
 -- the change that it is
@@ -114,9 +123,13 @@ change_by slots growth = record { place = growth.place; state = grown_state (slo
 abbrev pub with_growth : List Slot → Growth → List Slot
 with_growth slots growth = with_change slots (change_by slots growth)
 
--- its slot isn't Broken, and of the row of planes, about which no rule asks
+-- no rule asks of the slot's state: it is of the row of planes, or such a greatest value
+abbrev pub GrowsFreely : Slot → Type 0
+GrowsFreely slot = (slot.row.0 ≡ 67) ⊎ ((slot.row.0 ≡ 3) × (is_unasked slot.state ≡ true))
+
+-- its slot is so, and isn't Broken
 pub record IsGrowth (slots : List Slot) (growth : Growth) : Type 0 where
-  pub row : (slot_in slots growth.place).row.0 ≡ 67
+  pub free : GrowsFreely (slot_in slots growth.place)
   pub unbroken : (slot_in slots growth.place).state ≢ Broken
 
 -- the growths that are found as changes, and the changes

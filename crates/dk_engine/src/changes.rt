@@ -29,7 +29,8 @@ pub struct Change {
     pub state: State,
 }
 
-/// What a sample makes of the slots that it doesn't leave as they are: stretches of a line that grow, and the changes of the others.
+/// What a sample makes of the slots that it doesn't leave as they are: stretches of a line and greatest values that grow, and the changes
+/// of the others.
 #[derive(Drop)]
 pub struct Found {
     pub growths: List<Growth>,
@@ -133,6 +134,27 @@ fn push_growth(alloc: Global, growth: Growth, growths: &mut List<Growth>) -> Res
     Ok(())
 }
 
+// With the greatest value at a place, which rises to a number.
+fn push_rise(
+    alloc: Global,
+    place: usize,
+    x: i64,
+    growths: &mut List<Growth>,
+) -> Result<(), NoMemory>
+    ensures { OnOk result (growths.new ≡ growths.old ++ record { place = place; x = x; y = x; z = x } ∷ []) }
+{
+    push_growth(
+        alloc,
+        Growth {
+            place,
+            x,
+            y: x,
+            z: x,
+        },
+        growths,
+    )
+}
+
 // With the state that the sample makes of the slot at a place.
 fn push_joined(
     after: &After<'_>,
@@ -173,6 +195,7 @@ fn push_found(
     match seen_with(&slots[place], sample, place) {
         Seen::Stays => Ok(()),
         Seen::Grows(growth) => push_growth(after.alloc(), growth, &mut found.growths),
+        Seen::Rises(x) => push_rise(after.alloc(), place, x, &mut found.growths),
         Seen::Neither => push_joined(after, slots, place, &mut found.changes),
     }
 }

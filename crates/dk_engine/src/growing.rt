@@ -1,5 +1,5 @@
 // Planes and stretches of a line with a sample: whether they stay as they are, and stretches that grow, as the sample's point lies on the
-// line, beyond the last one.
+// line, beyond the last one. A greatest value that rises grows too.
 ghost use Rattle.std.specs.Prelude.{◌≡◌, ◌≢◌, ◌∷◌, [], ◌^◌, false, unsigned_abs, nat_le, IsTrue};
 ghost use Rattle.dk_base.specs.Values.{values_of};
 ghost use Rattle.dk_fits.specs.Fits.{is_whole, tuple_in};
@@ -13,13 +13,15 @@ ghost use Rattle.dk_engine.specs.Narrow.{IsSeen, grown_state, may_stay, prolonge
 
 use crate::Slot;
 use crate::operations::number_at;
+use crate::rising::seen_to_rise;
 use crate::staying::is_seen_to_stay;
 use dk_base::{VarId, View};
 use dk_forms::{distance, plane_stays, same_products};
 use dk_samples::{is_present, value_at};
 use dk_template::State;
 
-/// A stretch of a line in the slot at a place, with the point at which it ends then.
+/// A stretch of a line in the slot at a place, with the point at which it ends then, or a greatest value with the number that it is then,
+/// each coordinate of the point.
 #[derive(Clone, Copy, Debug)]
 pub struct Growth {
     pub place: usize,
@@ -181,6 +183,8 @@ pub(crate) enum Seen {
     Stays,
     /// The slot is a stretch of a line, which ends at the sample's point then.
     Grows(Growth),
+    /// The slot is a greatest value of which no rule asks, and is this number then.
+    Rises(i64),
     /// Neither is seen.
     Neither,
 }
@@ -237,7 +241,7 @@ fn seen_by(slot: &Slot, sample: &[View<'_>], place: usize, u: VarId, v: VarId, w
     }
 }
 
-// What a sample makes of a slot of another row: a bound or a comparison may be seen to stay as it is.
+// What a sample makes of a slot of another row: a bound or a comparison may be seen to stay as it is, and a greatest value to rise.
 #[inline(always)]
 fn seen_of_another(slot: &Slot, sample: &[View<'_>], place: usize) -> Seen
     ensures { IsSeen slot.now (with_sample slot.now.row slot.now.leaders (values_of sample.now) slot.now.state) place result }
@@ -245,12 +249,12 @@ fn seen_of_another(slot: &Slot, sample: &[View<'_>], place: usize) -> Seen
     if is_seen_to_stay(slot, sample) {
         Seen::Stays
     } else {
-        Seen::Neither
+        seen_to_rise(slot, sample, place)
     }
 }
 
-/// What a sample makes of the slot at a place: a plane, a stretch of a line, a bound or a comparison may be seen to stay as it is, and a
-/// stretch to grow.
+/// What a sample makes of the slot at a place: a plane, a stretch of a line, a bound or a comparison may be seen to stay as it is, a
+/// stretch to grow, and a greatest value to rise.
 #[inline(always)]
 pub(crate) fn seen_with(slot: &Slot, sample: &[View<'_>], place: usize) -> Seen
     requires { IsProper (form_of slot.now.row) slot.now.state }
@@ -265,10 +269,14 @@ pub(crate) fn seen_with(slot: &Slot, sample: &[View<'_>], place: usize) -> Seen
     }
 }
 
-// A stretch of a line gets another last point.
+// A stretch of a line gets another last point, or a greatest value another number.
 fn prolong(state: &mut State, x: i64, y: i64, z: i64)
     ensures { state.new ≡ prolonged state.old x y z }
 {
+    if let State::Greatest(greatest) = state {
+        *greatest = x;
+        return;
+    }
     if let State::Span { x2, .. } = state {
         *x2 = x;
     }
@@ -280,7 +288,7 @@ fn prolong(state: &mut State, x: i64, y: i64, z: i64)
     }
 }
 
-/// The slot's stretch of a line grows.
+/// The slot's stretch of a line, or greatest value, grows.
 pub(crate) fn grow(slot: &mut Slot, growth: Growth)
     ensures { slot.new ≡ with_state slot.old (grown_state slot.old growth) }
 {

@@ -1,7 +1,7 @@
 // Which bounds move often. What is noted of slots holds as long as none of those that are passed over changes, so such a bound isn't noted.
 // Nothing is said of it here: whatever is noted is right, and this decides what is worth it.
 use crate::Slot;
-use crate::changes::Change;
+use crate::changes::Found;
 use dk_base::{NoMemory, VarId};
 use std::alloc::Global;
 
@@ -118,27 +118,27 @@ impl Moves {
         Ok(())
     }
 
-    // If the slot says a bound, it moved.
-    fn note_slot(&mut self, slot: &Slot) -> Result<(), NoMemory> {
-        match number_of(slot) {
-            Some(number) => self.note(number),
+    // If the slot at a place says a bound, it moved.
+    fn note_place(&mut self, slots: &[Slot], place: usize) -> Result<(), NoMemory> {
+        match slots.get(place) {
+            Some(slot) => match number_of(slot) {
+                Some(number) => self.note(number),
+                None => Ok(()),
+            },
             None => Ok(()),
         }
     }
 
-    /// The slots at these places change. Where memory runs out, bounds that move may be noted, which costs time alone.
-    pub(crate) fn note_changes(
-        &mut self,
-        slots: &[Slot],
-        changes: &[Change],
-    ) -> Result<(), NoMemory> {
+    /// These slots grow and change. Where memory runs out, bounds that move may be noted, which costs time alone.
+    pub(crate) fn note_found(&mut self, slots: &[Slot], found: &Found) -> Result<(), NoMemory> {
         if self.samples < BOUNDS || !self.are_young(slots.len()) {
             return Ok(());
         }
-        for change in changes {
-            if let Some(slot) = slots.get(change.place) {
-                self.note_slot(slot)?;
-            }
+        for growth in found.growths.as_slice() {
+            self.note_place(slots, growth.place)?;
+        }
+        for change in found.changes.as_slice() {
+            self.note_place(slots, change.place)?;
         }
         Ok(())
     }

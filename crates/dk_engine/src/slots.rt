@@ -57,7 +57,7 @@ fn change_slots(slots: &mut [Slot], changes: Vec<Change>)
     }
 }
 
-// Lets a stretch of a line grow.
+// Lets a stretch of a line, or a greatest value, grow.
 fn grow_slot(slots: &mut [Slot], growth: Growth)
     ensures { slots.new ≡ with_growth slots.old growth }
 {
@@ -66,7 +66,7 @@ fn grow_slot(slots: &mut [Slot], growth: Growth)
     }
 }
 
-// Lets all stretches grow.
+// Lets all of them grow.
 fn grow_slots(slots: &mut [Slot], growths: &[Growth])
     ensures { slots.new ≡ fold with_growth slots.old growths.now }
 {
@@ -117,9 +117,9 @@ fn keep_notes(alloc: Global, notes: &mut Notes, found: &Found)
     }
 }
 
-// Which bounds move with all changes, as far as memory can be had.
+// Which bounds move with all growths and changes, as far as memory can be had.
 fn note_moves(moves: &mut Moves, slots: &[Slot], found: &Found) {
-    if moves.note_changes(slots, found.changes.as_slice()).is_err() {
+    if moves.note_found(slots, found).is_err() {
         moves.forget();
     }
 }

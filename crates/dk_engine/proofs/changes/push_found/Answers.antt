@@ -4,15 +4,16 @@ use Rattle.std.proofs.lemmas.List.{get_or_default}
 use Rattle.std.proofs.lemmas.Result.{on_ok_weaker}
 use Rattle.dk_base.specs.Values.{values_of}
 use Rattle.dk_base.specs.declared.values.Value.{Value}
-use Rattle.dk_engine.proofs.Grown.{found_grown, found_joined, found_still}
+use Rattle.dk_engine.proofs.Grown.{found_grown, found_joined, found_risen, found_still}
 use Rattle.dk_engine.specs.Feeding.{read_after, with_sample}
 use Rattle.dk_engine.specs.Levels.{OneMore}
 use Rattle.dk_engine.specs.Narrow.{IsSeen}
 use Rattle.dk_engine.specs.Parts.{no_slot, slot_in}
 use Rattle.dk_engine.specs.declared.changes.Change.{Change}
 use Rattle.dk_engine.specs.declared.changes.Found.{Found}
+use Rattle.dk_engine.specs.declared.growing.Growth.{Growth}
 use Rattle.dk_engine.specs.declared.growing.Seen.{Seen}
-use Rattle.dk_engine.specs.declared.growing.Seen.TheVariants.{Grows, Stays}
+use Rattle.dk_engine.specs.declared.growing.Seen.TheVariants.{Grows, Rises, Stays}
 use Rattle.dk_engine.specs.declared.slot.Slot.{Slot}
 use Rattle.dk_engine.proofs.changes.push_found.Goals as goal
 
@@ -45,6 +46,19 @@ returns-in-Grows c =
     let more : Found = record { growths = c.push_growth.new.growths; changes = found.changes } in
     on_ok_weaker c.push_growth.result (λ (e : c.push_growth.new.growths ≡ found.growths ++ growth ∷ []).
     found_grown c.args.asked (read_after o.whole.kept o.sample) o.sample slots place c.requires.within c.requires.stays_open found c.requires.below growth grown more e refl) c.push_growth.ensures
+
+pub returns-in-Rises : goal.returns-in-Rises
+returns-in-Rises c =
+    let o : OneMore = c.args.after.now in
+    let slots = c.args.slots.now in
+    let place = c.args.place in
+    let x = c.in-Rises.x in
+    let risen = at_place slots place c.index-slots-place.result c.requires.within c.index-slots-place.is (values_of c.args.sample.now) o.sample c.requires.sample (Rises x) c.in-Rises.ensures in
+    let growth : Growth = record { place = place; x = x; y = x; z = x } in
+    let found : Found = c.args.found.now in
+    let more : Found = record { growths = c.push_rise.new.growths; changes = found.changes } in
+    on_ok_weaker c.push_rise.result (λ (e : c.push_rise.new.growths ≡ found.growths ++ growth ∷ []).
+    found_risen c.args.asked (read_after o.whole.kept o.sample) o.sample slots place c.requires.within c.requires.stays_open found c.requires.below growth refl risen more e refl) c.push_rise.ensures
 
 pub returns-in-Neither : goal.returns-in-Neither
 returns-in-Neither c =
