@@ -1,11 +1,11 @@
 // One sample more.
-ghost use Rattle.std.specs.Prelude.{◌≡◌, ◌<◌, [], ◌∷◌, ◌++◌, true, false, All, IfOk, IfSome, IsTrue, List, length, map};
+ghost use Rattle.std.specs.Prelude.{◌≡◌, ◌<◌, [], ◌∷◌, ◌++◌, true, false, All, IfOk, IfSome, IsTrue, List, length, map, position};
 ghost use Rattle.std.specs.List.{list_any};
 ghost use Rattle.dk_base.specs.Values.{values_of};
 ghost use Rattle.dk_base.specs.declared.values.Value.{Value as SampleValue};
 ghost use Rattle.dk_classes.specs.Leaders.{own_leaders};
 ghost use Rattle.dk_fits.specs.Laws.{IsSample};
-ghost use Rattle.dk_presence.specs.Patterns.{present_in};
+ghost use Rattle.dk_presence.specs.Patterns.{held_patterns, present_in, same_vars};
 ghost use Rattle.dk_presence.specs.Steps.{AreUnheld, Differ, refined, with_sample_of};
 ghost use Rattle.dk_samples.specs.Leaders.{VarsAscend};
 ghost use Rattle.dk_engine.specs.Conditions.{AreFormed};
@@ -47,10 +47,12 @@ fn held_after(
     refined.add(present.as_slice())
 }
 
-/// What is found that a sample changes of the slots, and whether it was asked which of them close.
+/// What is found that a sample changes of the slots, whether it was asked which of them close, and the place at which the sample's pattern is
+/// held, if it is.
 #[derive(Drop)]
 pub(crate) struct Changes {
     asked: bool,
+    place: Option<usize>,
     all: Found,
 }
 
@@ -103,9 +105,11 @@ impl Engine {
         ensures changes { IfOk result (λ o. IfSome o (λ c. AreFound (outcome c.asked (read_after self.now.kept (values_of sample.now)) (values_of sample.now)) self.now.kept.slots c.all)) }
         ensures unasked { IfOk result (λ o. IfSome o (λ c. c.asked ≡ false → IsShut (values_of sample.now) self.now.kept c.all.changes)) }
         ensures premises { IfOk result (λ o. IfSome o (λ c. list_any (loses_by self.now.kept.slots) c.all.changes ≡ false)) }
+        ensures place { IfOk result (λ o. IfSome o (λ c. c.place ≡ position (same_vars (present_in (own_leaders self.now.kept.leaders) (values_of sample.now))) (held_patterns self.now.kept.held))) }
     {
         let leaders = self.kept.leaders.leaders();
-        let new = !self.kept.held.has_sample(leaders, sample)?;
+        let place = self.kept.held.place(leaders, sample)?;
+        let new = !place.is_some();
         let after = After::of(self.alloc, self, sample);
         let slots = self.kept.slots.as_slice();
         let skips = self.skips(sample);
@@ -117,7 +121,11 @@ impl Engine {
                 if !new && some_may_begin(slots, all.changes.as_slice()) {
                     return Ok(None);
                 }
-                Ok(Some(Changes { asked: new, all }))
+                Ok(Some(Changes {
+                    asked: new,
+                    place,
+                    all,
+                }))
             }
             None => Ok(None),
         }
@@ -128,14 +136,19 @@ impl Engine {
         requires sampled { IsSample self.old.infos (values_of sample.now) }
         requires turned { IsTurned self.old.kept (values_of sample.now) (unchanged_now self.old.kept) }
         requires changes { AreFound (outcome changes.asked (read_after self.old.kept (values_of sample.now)) (values_of sample.now)) self.old.kept.slots changes.all }
+        requires place { changes.place ≡ position (same_vars (present_in (own_leaders self.old.kept.leaders) (values_of sample.now))) (held_patterns self.old.kept.held) }
         ensures grammar { self.new.grammar ≡ self.old.grammar }
         ensures infos { self.new.infos ≡ self.old.infos }
         ensures kept { IfOk result (λ _. self.new.kept ≡ parts_after self.old.kept.samples self.old.kept.held (values_of sample.now) (unchanged_now self.old.kept) (slots_left (outcome changes.asked (read_after self.old.kept (values_of sample.now)) (values_of sample.now)) self.old.kept.slots)) }
     {
-        let Changes { asked: _, all } = changes;
+        let Changes {
+            asked: _,
+            place,
+            all,
+        } = changes;
         let none = Presence::new(self.alloc)?;
         let leaders = self.kept.leaders.leaders();
-        if let Err(lack) = self.kept.held.count_sample(leaders, sample) {
+        if let Err(lack) = self.kept.held.count_sample(place, leaders, sample) {
             self.kept.held = none;
             return Err(lack);
         }

@@ -1,10 +1,10 @@
 // Patterns of present leaders with their counts.
-ghost use Rattle.std.specs.Prelude.{◌≡◌, ◌↔◌, [], ◌∷◌, ◌++◌, ◌<◌, true, All, IfOk, IsTrue, List, OnOk, map};
+ghost use Rattle.std.specs.Prelude.{◌≡◌, ◌↔◌, [], ◌∷◌, ◌++◌, ◌<◌, true, All, IfOk, IsTrue, List, OnOk, is_some, map, position};
 ghost use Rattle.dk_base.specs.Values.{values_of};
 ghost use Rattle.dk_base.specs.declared.kinds.VarId.{VarId};
 ghost use Rattle.dk_base.specs.declared.values.Value.{Value};
 ghost use Rattle.dk_samples.specs.Leaders.{LeadNow, VarsAscend};
-ghost use Rattle.dk_presence.specs.Patterns.{AreCounted, AreHeld, count_of, counted_by, has, pattern_count, patterns_of, present_in};
+ghost use Rattle.dk_presence.specs.Patterns.{AreCounted, AreHeld, count_of, counted_by, has, held_patterns, pattern_count, patterns_of, present_in, same_vars};
 ghost use Rattle.dk_presence.specs.Steps.{AreUnheld, Differ, refined, with_sample_of};
 
 use crate::Held;
@@ -99,32 +99,40 @@ impl Presence {
         sum_of(self.held.as_slice(), leaders)
     }
 
-    /// Whether these leaders are a pattern that is held.
-    pub fn has_pattern(&self, present: &[VarId]) -> bool
-        ensures { IsTrue result ↔ (0 < pattern_count self.now present.now) }
+    // The place at which these leaders are held as a pattern, if they are.
+    fn place_listed(&self, present: &[VarId]) -> Option<usize>
+        ensures place { result ≡ position (same_vars present.now) (held_patterns self.now) }
+        ensures held { IsTrue (is_some result) ↔ (0 < pattern_count self.now present.now) }
     {
-        place_of(&self.places, self.held.as_slice(), present).is_some()
+        place_of(&self.places, self.held.as_slice(), present)
     }
 
-    /// Whether the leaders that are present in the sample are a pattern that is held. It takes no memory where the pattern is one of the
-    /// first.
-    pub fn has_sample(&self, leaders: &[VarId], sample: &[View<'_>]) -> Result<bool, NoMemory>
-        ensures { IfOk result (λ b. IsTrue b ↔ (0 < pattern_count self.now (present_in leaders.now (values_of sample.now)))) }
-    {
-        if place_among(self.held.as_slice(), leaders, sample).is_some() {
-            return Ok(true);
-        }
-        let present = present_leaders(self.alloc, leaders, sample)?;
-        Ok(self.has_pattern(present.as_slice()))
-    }
-
-    /// One sample more, with its pattern of these leaders. It takes no memory where the pattern is one of the first. After want of memory
-    /// nothing is said of the patterns.
-    pub fn count_sample(&mut self, leaders: &[VarId], sample: &[View<'_>]) -> Result<(), NoMemory>
-        requires { VarsAscend leaders.now }
-        ensures { OnOk result (self.new ≡ with_sample_of (present_in leaders.now (values_of sample.now)) self.old) }
+    /// The place at which the leaders that are present in the sample are held as a pattern, if they are. It takes no memory where the
+    /// pattern is one of the first.
+    pub fn place(&self, leaders: &[VarId], sample: &[View<'_>]) -> Result<Option<usize>, NoMemory>
+        ensures place { IfOk result (λ place. place ≡ position (same_vars (present_in leaders.now (values_of sample.now))) (held_patterns self.now)) }
+        ensures held { IfOk result (λ place. IsTrue (is_some place) ↔ (0 < pattern_count self.now (present_in leaders.now (values_of sample.now)))) }
     {
         if let Some(place) = place_among(self.held.as_slice(), leaders, sample) {
+            return Ok(Some(place));
+        }
+        let present = present_leaders(self.alloc, leaders, sample)?;
+        Ok(self.place_listed(present.as_slice()))
+    }
+
+    /// One sample more, with its pattern of these leaders, which is held at this place, if it is held. It takes no memory where it is. After
+    /// want of memory nothing is said of the patterns.
+    pub fn count_sample(
+        &mut self,
+        place: Option<usize>,
+        leaders: &[VarId],
+        sample: &[View<'_>],
+    ) -> Result<(), NoMemory>
+        requires ascend { VarsAscend leaders.now }
+        requires place { place ≡ position (same_vars (present_in leaders.now (values_of sample.now))) (held_patterns self.old) }
+        ensures { OnOk result (self.new ≡ with_sample_of (present_in leaders.now (values_of sample.now)) self.old) }
+    {
+        if let Some(place) = place {
             count_once_more(&mut self.held, place);
             return Ok(());
         }

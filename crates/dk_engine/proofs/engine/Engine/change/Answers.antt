@@ -1,10 +1,10 @@
-use Rattle.std.specs.Prelude.{◌≡◌, ◌+◌, [], List, map}
+use Rattle.std.specs.Prelude.{◌≡◌, ◌+◌, [], List, map, position}
 use Rattle.std.proofs.Common.{ap, rules, subst, sym, ◌∙◌}
 use Rattle.dk_base.specs.Values.{values_of}
 use Rattle.dk_classes.specs.Leaders.{own_leaders}
 use Rattle.dk_fits.specs.Laws.{IsSample}
 use Rattle.dk_presence.proofs.Refining.{refined_none}
-use Rattle.dk_presence.specs.Patterns.{capped, present_in}
+use Rattle.dk_presence.specs.Patterns.{capped, held_patterns, present_in, same_vars}
 use Rattle.dk_presence.specs.Steps.{refined, with_sample_of}
 use Rattle.dk_presence.specs.declared.held.Held.{Held}
 use Rattle.dk_engine.proofs.Emptied.{parts, patterns_out, same_parts}
@@ -15,6 +15,14 @@ use Rattle.dk_engine.specs.Feeding.{IsTurned, parts_after, read_after, unchanged
 use Rattle.dk_engine.specs.Levels.{Whole}
 use Rattle.dk_engine.specs.Narrow.{AreFound, outcome, slots_left}
 use Rattle.dk_engine.proofs.engine.Engine.change.Goals as goal
+
+pub count_sample-requires-clause-place : goal.count_sample-requires-clause-place
+count_sample-requires-clause-place c =
+    let e = c.self.inside in
+    let sample = values_of c.args.sample.now in
+    let told : c.args.changes.place ≡ position (same_vars (present_in (own_leaders e.kept.leaders) sample)) (held_patterns e.kept.held) =
+    subst (λ (w : Whole). c.args.changes.place ≡ position (same_vars (present_in (own_leaders w.kept.leaders) sample)) (held_patterns w.kept.held)) (sym c.self.view_is) c.requires.place in
+    search (rules, told)
 
 pub invariant_of-self : goal.invariant_of-self
 invariant_of-self c =
