@@ -24,7 +24,7 @@ use Rattle.dk_engine.proofs.OneTuple.{row_by, with_tuple}
 use Rattle.dk_engine.proofs.Raising.{upper_slot}
 use Rattle.dk_engine.specs.Bounding.{compares, keeps_greatest, keeps_least}
 use Rattle.dk_engine.specs.Feeding.{with_sample}
-use Rattle.dk_engine.specs.Idle.{IsIdle, are_in_order, are_near, are_rising, are_so, are_within, compares_first, compares_values, is_between, is_compared, is_from, is_idle_greatest, is_idle_least, is_known, is_listed, is_near, is_near_number, is_numeric, is_one, is_own, is_so, is_to, is_told, is_within, meets}
+use Rattle.dk_engine.specs.Idle.{IsIdle, are_in_order, are_near, are_rising, are_so, are_within, compares_first, compares_values, is_between, is_compared, is_from, is_idle_greatest, is_idle_least, is_known, is_listed, is_near, is_near_number, is_numeric, is_one, is_own, is_so, is_to, is_told, is_within, lie_along, meets}
 use Rattle.dk_engine.specs.declared.facts.Compared.{Compared}
 use Rattle.dk_engine.specs.declared.facts.Range.{Range}
 use Rattle.dk_engine.specs.declared.idle.Watch.{Watch}
@@ -32,17 +32,26 @@ use Rattle.dk_engine.specs.declared.slot.Slot.{Slot}
 
 -- ---- a sample of which all facts are true
 module _ (watch : Watch) (sample : List Value) (meeting : meets watch sample ≡ true) where
-  rest : (are_rising sample None watch.rising.items && are_so sample watch.compared.items) ≡ true
-  rest = (and_parts (are_within sample watch.ranges.items) (are_rising sample None watch.rising.items && are_so sample watch.compared.items) meeting).1
+  abbrev of_two : Bool
+  of_two = are_so sample watch.compared.items && lie_along sample watch.lines.items
+
+  rest : (are_rising sample None watch.rising.items && of_two) ≡ true
+  rest = (and_parts (are_within sample watch.ranges.items) (are_rising sample None watch.rising.items && of_two) meeting).1
 
   pub all_within : are_within sample watch.ranges.items ≡ true
-  all_within = (and_parts (are_within sample watch.ranges.items) (are_rising sample None watch.rising.items && are_so sample watch.compared.items) meeting).0
+  all_within = (and_parts (are_within sample watch.ranges.items) (are_rising sample None watch.rising.items && of_two) meeting).0
 
   all_rising : are_rising sample None watch.rising.items ≡ true
-  all_rising = (and_parts (are_rising sample None watch.rising.items) (are_so sample watch.compared.items) rest).0
+  all_rising = (and_parts (are_rising sample None watch.rising.items) of_two rest).0
+
+  both : of_two ≡ true
+  both = (and_parts (are_rising sample None watch.rising.items) of_two rest).1
 
   all_so : are_so sample watch.compared.items ≡ true
-  all_so = (and_parts (are_rising sample None watch.rising.items) (are_so sample watch.compared.items) rest).1
+  all_so = (and_parts (are_so sample watch.compared.items) (lie_along sample watch.lines.items) both).0
+
+  pub all_along : lie_along sample watch.lines.items ≡ true
+  all_along = (and_parts (are_so sample watch.compared.items) (lie_along sample watch.lines.items) both).1
 
 -- ---- bounds
 -- a value between two numbers is a number or missing

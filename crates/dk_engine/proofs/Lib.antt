@@ -29,6 +29,7 @@ pub mod OfKinds
 pub mod Breaking
 pub mod Stretches
 pub mod Passing
+pub mod Drawn
 pub mod Sizes
 pub mod Pushing
 pub mod BegunPremises

@@ -187,13 +187,13 @@ idle_slot watch slot e u v w over h near sample meeting =
 
 -- ---- lines that are idle
 -- numbers that are near are within the limit of lines
-near_in_limit : (x y : ℤ) → nat_le (unsigned_abs x) (2 ^ 30) ≡ true → nat_le (unsigned_abs y) (2 ^ 30) ≡ true → in_limit (x, y) ≡ true
+pub near_in_limit : (x y : ℤ) → nat_le (unsigned_abs x) (2 ^ 30) ≡ true → nat_le (unsigned_abs y) (2 ^ 30) ≡ true → in_limit (x, y) ≡ true
 near_in_limit x y near_x near_y = and_from (nat_le (unsigned_abs x) (2 ^ 62)) _ (wide x near_x) (wide y near_y)
   where
     wide : (z : ℤ) → nat_le (unsigned_abs z) (2 ^ 30) ≡ true → nat_le (unsigned_abs z) (2 ^ 62) ≡ true
     wide z near = let small = leb-true (unsigned_abs z) (2 ^ 30) near in le-leb (unsigned_abs z) (2 ^ 62) (omega (arith, small))
 
-free_third : (a b x y z : ℤ) → a *ℤ x +ℤ b *ℤ y +ℤ pos 0 *ℤ z ≡ a *ℤ x +ℤ b *ℤ y
+pub free_third : (a b x y z : ℤ) → a *ℤ x +ℤ b *ℤ y +ℤ pos 0 *ℤ z ≡ a *ℤ x +ℤ b *ℤ y
 free_third a b x y z =
     same_rep (rep-add (rep-add (rep-mul (rep a) (rep x)) (rep-mul (rep b) (rep y))) (rep-mul (rep (pos 0)) (rep z))) (rep-add (rep-mul (rep a) (rep x)) (rep-mul (rep b) (rep y))) (omega arith)
 

@@ -1,7 +1,7 @@
 -- Slots that no sample changes of which some facts are true, and how a search for changed slots passes over them. A fact speaks of
 -- variables and their numbers alone, and is true where one of its variables is missing: a number is within bounds, some rise, or two
 -- compare as they did.
-use Rattle.std.specs.Prelude.{◌≡◌, ◌<◌, ◌≤◌, ◌^◌, ◌&&◌, ◌||◌, ◌==◌, ℕ, ℤ, pos, negsuc, neg_ℤ, Bool, true, false, List, [], ◌∷◌, Option, None, Some, if◌then◌else◌, int_le, int_lt, length, nat_le, nat_lt, slice_index_or, unsigned_abs}
+use Rattle.std.specs.Prelude.{◌≡◌, ◌<◌, ◌≤◌, ◌^◌, ◌+ℤ◌, ◌*ℤ◌, ◌&&◌, ◌||◌, ◌==◌, ℕ, ℤ, pos, negsuc, neg_ℤ, Bool, true, false, List, [], ◌∷◌, Option, None, Some, if◌then◌else◌, int_le, int_lt, length, nat_le, nat_lt, slice_index_or, unsigned_abs}
 use Rattle.std.specs.List.{list_all, list_any}
 use Rattle.std.specs.Ordering.{int_eq}
 use Rattle.dk_base.specs.declared.kinds.VarId.{VarId}
@@ -16,6 +16,7 @@ use Rattle.dk_engine.specs.Parts.{slot_in}
 use Rattle.dk_engine.specs.declared.facts.Compared.{Compared}
 use Rattle.dk_engine.specs.declared.facts.Range.{Range}
 use Rattle.dk_engine.specs.declared.idle.Watch.{Watch}
+use Rattle.dk_engine.specs.declared.lines.Line.{Line}
 use Rattle.dk_engine.specs.declared.slot.Slot.{Slot}
 
 -- the variable is among them
@@ -164,6 +165,51 @@ are_so sample compared = list_all (is_so sample) compared
 abbrev pub is_compared : List Compared → ℕ → VarId → VarId → Bool
 is_compared compared n u v = list_any (λ (c : Compared). c.row.0 == n && (c.first.0 == u.0 && c.second.0 == v.0)) compared
 
+-- ---- variables whose numbers lie on a line
+-- two near numbers
+abbrev pub lie_on : Line → ℤ → ℤ → Bool
+lie_on l x y = (is_near_number x && is_near_number y) && int_eq (l.a *ℤ x +ℤ l.b *ℤ y) (neg_ℤ l.c)
+
+-- a number and a value
+abbrev pub lies_first : Line → ℤ → Value → Bool
+lies_first l x (value.Int y) = lie_on l x y
+lies_first l x value.Missing = true
+lies_first l x _ = false
+
+-- two values
+abbrev pub lie_values : Line → Value → Value → Bool
+lie_values l (value.Int x) second = lies_first l x second
+lie_values l value.Missing second = true
+lie_values l _ second = false
+
+abbrev pub lies_along : List Value → Line → Bool
+lies_along sample l = lie_values l (value_in sample l.first) (value_in sample l.second)
+
+abbrev pub lie_along : List Value → List Line → Bool
+lie_along sample lines = list_all (lies_along sample) lines
+
+-- one of them is this line of these two
+abbrev pub is_drawn : List Line → VarId → VarId → ℤ → ℤ → ℤ → Bool
+is_drawn lines u v a b c = list_any (λ (l : Line). (l.first.0 == u.0 && l.second.0 == v.0) && (int_eq l.a a && (int_eq l.b b && int_eq l.c c))) lines
+
+-- a plane says of two variables that they lie on such a line, and nothing of a third one, whose numbers are near
+abbrev pub is_free : List Range → List Line → VarId → VarId → VarId → ℤ → ℤ → ℤ → ℤ → Bool
+is_free ranges lines u v w a b c d = int_eq c (pos 0) && (is_drawn lines u v a b d && is_near ranges w)
+
+-- so it says, the free one standing last, in the middle or first
+abbrev pub is_free_plane : List Range → List Line → VarId → VarId → VarId → ℤ → ℤ → ℤ → ℤ → Bool
+is_free_plane ranges lines u v w a b c d =
+    is_free ranges lines u v w a b c d || (is_free ranges lines u w v a c b d || is_free ranges lines v w u b c a d)
+
+abbrev pub is_free_over : List Range → List Line → VarId → VarId → VarId → State → Bool
+is_free_over ranges lines u v w (Plane a b c d) = is_free_plane ranges lines u v w a b c d
+is_free_over ranges lines u v w _ = false
+
+-- such a line itself
+abbrev pub is_drawn_straight : List Line → VarId → VarId → State → Bool
+is_drawn_straight lines u v (Straight a b c) = is_drawn lines u v a b c
+is_drawn_straight lines u v _ = false
+
 -- ---- idle slots
 -- the plane says no more than that a variable, which stands at two roles, is itself
 abbrev pub are_same : VarId → VarId → VarId → ℤ → ℤ → ℤ → ℤ → Bool
@@ -189,7 +235,7 @@ is_told ranges rising n u v = (is_own n u v && is_numeric ranges u) || (n == 13 
 
 -- all facts are true of the sample
 abbrev pub meets : Watch → List Value → Bool
-meets watch sample = are_within sample watch.ranges.items && (are_rising sample None watch.rising.items && are_so sample watch.compared.items)
+meets watch sample = are_within sample watch.ranges.items && (are_rising sample None watch.rising.items && (are_so sample watch.compared.items && lie_along sample watch.lines.items))
 
 -- no such sample changes the slot
 abbrev pub IsIdle : Watch → Slot → Type 0

@@ -16,6 +16,7 @@ use crate::facts::{
     is_compared, is_listed, is_numeric, is_told,
 };
 use crate::growing::is_near;
+use crate::lines::{Line, is_drawn, lie_along, lines_by};
 use crate::moves::Moves;
 use crate::noted::place_of;
 use crate::staying::holds;
@@ -24,12 +25,13 @@ use dk_template::{RowId, State};
 use std::alloc::Global;
 
 /// What a sample is asked before slots are passed over: whether these variables have numbers within their bounds, the numbers of these rise,
-/// and these two compare so, or are missing.
+/// and these two compare so and lie on these lines, or are missing.
 #[derive(Drop)]
 pub(crate) struct Watch {
     pub(crate) ranges: Vec<Range>,
     pub(crate) rising: Vec<VarId>,
     pub(crate) compared: Vec<Compared>,
+    pub(crate) lines: Vec<Line>,
 }
 
 // At which places of a watch's lists a variable stands, and how many comparisons are left of those that slots are looked for from behind.
@@ -63,7 +65,8 @@ pub(crate) fn meets(watch: &Watch, sample: &[View<'_>]) -> bool
 {
     are_within(sample, watch.ranges.as_slice())
         && (are_rising(sample, watch.rising.as_slice())
-            && are_so(sample, watch.compared.as_slice()))
+            && (are_so(sample, watch.compared.as_slice())
+                && lie_along(sample, watch.lines.as_slice())))
 }
 
 // Whether a plane says of its first coordinate alone which number it is.
@@ -326,7 +329,113 @@ fn is_idle_straight(ranges: &[Range], places: &[usize], u: VarId, v: VarId, stat
     }
 }
 
+// Whether a plane is seen to say of two variables that they lie on a line that is listed, and nothing of a third one, whose numbers are near.
+fn is_free(
+    ranges: &[Range],
+    places: &[usize],
+    lines: &[Line],
+    u: VarId,
+    v: VarId,
+    w: VarId,
+    a: i128,
+    b: i128,
+    c: i128,
+    d: i128,
+) -> bool
+    ensures { IsTrue result → is_free ranges.now lines.now u v w a b c d ≡ true }
+{
+    c == 0 && (is_drawn(lines, u, v, a, b, d) && is_known_near(ranges, places, w))
+}
+
+// Whether it is, whichever of the three is free.
+fn is_free_plane(
+    ranges: &[Range],
+    places: &[usize],
+    lines: &[Line],
+    u: VarId,
+    v: VarId,
+    w: VarId,
+    a: i128,
+    b: i128,
+    c: i128,
+    d: i128,
+) -> bool
+    ensures { IsTrue result → is_free_plane ranges.now lines.now u v w a b c d ≡ true }
+{
+    is_free(ranges, places, lines, u, v, w, a, b, c, d)
+        || (is_free(ranges, places, lines, u, w, v, a, c, b, d)
+            || is_free(ranges, places, lines, v, w, u, b, c, a, d))
+}
+
+// The same of a state, if it is a plane.
+fn is_free_over(
+    ranges: &[Range],
+    places: &[usize],
+    lines: &[Line],
+    u: VarId,
+    v: VarId,
+    w: VarId,
+    state: &State,
+) -> bool
+    ensures { IsTrue result → is_free_over ranges.now lines.now u v w state.now ≡ true }
+{
+    match state {
+        State::Plane { a, b, c, d } => {
+            is_free_plane(ranges, places, lines, u, v, w, *a, *b, *c, *d)
+        }
+        _ => false,
+    }
+}
+
+// Whether a slot of row 67 over three leaders, a plane, is seen to be told by a line.
+fn is_idle_free(watch: &Watch, places: &[usize], slot: &Slot, u: VarId, v: VarId, w: VarId) -> bool
+    requires row { slot.now.row.0 ≡ 67 }
+    requires leaders { slot.now.leaders ≡ u ∷ v ∷ w ∷ [] }
+    ensures { IsTrue result → IsIdle watch.now slot.now }
+{
+    is_free_over(
+        watch.ranges.as_slice(),
+        places,
+        watch.lines.as_slice(),
+        u,
+        v,
+        w,
+        &slot.state,
+    )
+}
+
+// Whether a state is a line through two variables that is listed.
+fn is_drawn_straight(lines: &[Line], u: VarId, v: VarId, state: &State) -> bool
+    ensures { result ≡ is_drawn_straight lines.now u v state.now }
+{
+    match state {
+        State::Straight { a, b, c } => is_drawn(lines, u, v, *a, *b, *c),
+        _ => false,
+    }
+}
+
+// Whether a slot of row 15 over two leaders says a line that is listed.
+fn is_idle_drawn(watch: &Watch, slot: &Slot, u: VarId, v: VarId) -> bool
+    requires row { slot.now.row.0 ≡ 15 }
+    requires leaders { slot.now.leaders ≡ u ∷ v ∷ [] }
+    ensures { IsTrue result → IsIdle watch.now slot.now }
+{
+    is_drawn_straight(watch.lines.as_slice(), u, v, &slot.state)
+}
+
 // Whether a slot of row 15 over two leaders is seen to be idle.
+fn is_idle_of_two(watch: &Watch, places: &Places, slot: &Slot, u: VarId, v: VarId) -> bool
+    requires row { slot.now.row.0 ≡ 15 }
+    requires leaders { slot.now.leaders ≡ u ∷ v ∷ [] }
+    ensures { IsTrue result → IsIdle watch.now slot.now }
+{
+    if is_idle_drawn(watch, slot, u, v) {
+        return true;
+    }
+    is_idle_line(watch, places, slot, u, v)
+}
+
+// Whether a slot of row 15 over two leaders is seen to say no more than that they are one, or than that one of them has its number.
 fn is_idle_line(watch: &Watch, places: &Places, slot: &Slot, u: VarId, v: VarId) -> bool
     requires row { slot.now.row.0 ≡ 15 }
     requires leaders { slot.now.leaders ≡ u ∷ v ∷ [] }
@@ -355,6 +464,9 @@ fn is_idle_of_three(
     ensures { IsTrue result → IsIdle watch.now slot.now }
 {
     if is_idle_stretch(watch, places.ranges.as_slice(), slot, u, v, w) {
+        return true;
+    }
+    if is_idle_free(watch, places.ranges.as_slice(), slot, u, v, w) {
         return true;
     }
     is_idle_by(watch, places.ranges.as_slice(), slot, u, v, w)
@@ -454,7 +566,7 @@ fn is_idle(watch: &Watch, places: &mut Places, slot: &Slot) -> bool
             if 11 <= slot.row.0 && slot.row.0 <= 14 {
                 is_idle_comparison(watch, places, slot, *u, *v)
             } else if slot.row.0 == 15 {
-                is_idle_line(watch, places, slot, *u, *v)
+                is_idle_of_two(watch, places, slot, *u, *v)
             } else {
                 false
             }
@@ -674,6 +786,7 @@ impl Watch {
             ranges: Vec::new(alloc),
             rising: Vec::new(alloc),
             compared: Vec::new(alloc),
+            lines: Vec::new(alloc),
         }
     }
 }
@@ -694,6 +807,7 @@ impl Notes {
     fn of(alloc: Global, moves: &Moves, slots: &[Slot]) -> Result<Notes, NoMemory>
         ensures { IfOk result (λ notes. AreSkips notes.watch slots.now notes.skips.items) }
     {
+        let lines = lines_by(alloc, slots)?;
         let ranges = ranges_of(alloc, moves, slots)?;
         let chain = Chain::of(alloc, slots)?;
         let compared = compared_by(alloc, &ranges, &chain, slots)?;
@@ -706,6 +820,7 @@ impl Notes {
             ranges: ranges.all,
             rising: chain.vars,
             compared,
+            lines,
         };
         let skips = skips_of(alloc, &watch, places, slots)?;
         let ends = ends_among(alloc, skips.as_slice(), slots)?;

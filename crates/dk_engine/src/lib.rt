@@ -19,6 +19,8 @@ mod idle;
 mod kept;
 pub mod laws;
 mod lending;
+mod level;
+mod lines;
 mod mapping;
 mod merging;
 mod moves;
