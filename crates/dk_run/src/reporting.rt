@@ -74,8 +74,28 @@ fn tell_marked<F: Fn(&[u8]) -> bool + Drop, S: Sinks>(
     Ok(())
 }
 
-// Writes the sections of all points. Which have samples is found for all at once, and so are shortcuts, since a section goes down from
-// its point.
+// Writes them by shortcuts, which are found for all points at once.
+fn tell_by_shortcuts<F: Fn(&[u8]) -> bool + Drop, S: Sinks>(
+    alloc: Global,
+    command: &Command,
+    session: &Session<F>,
+    marks: &[bool],
+    sinks: &mut S,
+) -> Result<(), Halt>
+    requires long { length marks.now ≡ length (points_of session.now) }
+    requires marks { (h : History) → SessionStandsFor session.now h → marks.now ≡ have_samples h }
+    requires reports { ReportsBy command.now session.now }
+    requires callable { F.IsAlwaysCallable (select_of session.now) }
+    requires selects { SelectsBy (F.post (select_of session.now)) (is_selected command.now) }
+    ensures { TellsOutcome (SessionStandsFor session.now) (λ h. report_of (report_options command.now) (is_selected command.now) h) (S.written sinks.old) (S.written sinks.new) (S.faults sinks.old) (S.faults sinks.new) result }
+{
+    match session.shortcuts() {
+        Ok(shortcuts) => tell_marked(alloc, command, session, shortcuts.as_slice(), marks, sinks),
+        Err(_) => Err(Halt::NoMemory),
+    }
+}
+
+// Writes the sections of all points. Which have samples is found for all at once, since a section goes down from its point.
 fn tell_sections<F: Fn(&[u8]) -> bool + Drop, S: Sinks>(
     alloc: Global,
     command: &Command,
@@ -87,16 +107,9 @@ fn tell_sections<F: Fn(&[u8]) -> bool + Drop, S: Sinks>(
     requires selects { SelectsBy (F.post (select_of session.now)) (is_selected command.now) }
     ensures { TellsOutcome (SessionStandsFor session.now) (λ h. report_of (report_options command.now) (is_selected command.now) h) (S.written sinks.old) (S.written sinks.new) (S.faults sinks.old) (S.faults sinks.new) result }
 {
-    match (session.have_samples(), session.shortcuts()) {
-        (Ok(marks), Ok(shortcuts)) => tell_marked(
-            alloc,
-            command,
-            session,
-            shortcuts.as_slice(),
-            marks.as_slice(),
-            sinks,
-        ),
-        _ => Err(Halt::NoMemory),
+    match session.have_samples() {
+        Ok(marks) => tell_by_shortcuts(alloc, command, session, marks.as_slice(), sinks),
+        Err(_) => Err(Halt::NoMemory),
     }
 }
 

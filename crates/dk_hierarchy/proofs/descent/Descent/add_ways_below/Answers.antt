@@ -4,6 +4,7 @@ use Rattle.dk_graph.specs.declared.nodes.Edge.{Edge}
 use Rattle.dk_points.proofs.Nodes.{length-nodes}
 use Rattle.dk_hierarchy.proofs.Following.{one_edge_more, with_edge}
 use Rattle.dk_hierarchy.specs.Descent.{with_way_at}
+use Rattle.dk_hierarchy.specs.Shortcuts.{IsDescentBy}
 use Rattle.dk_hierarchy.specs.declared.way.Way.{Way}
 use Rattle.dk_hierarchy.proofs.descent.Descent.add_ways_below.Goals as goal
 

@@ -1,19 +1,19 @@
-use Rattle.std.specs.Prelude.{◌≡◌, ◌<◌, ◌++◌, [], ℕ, List, Some, length, slice_get}
+use Rattle.std.specs.Prelude.{◌≡◌, ◌<◌, ◌++◌, [], ℕ, All, List, Some, length, slice_get}
 use Rattle.std.proofs.Common.{◌∙◌, ap, append-nil, subst, sym}
 use Rattle.std.proofs.lemmas.List.Elements.{All-nil}
 use Rattle.dk_base.specs.declared.kinds.VarId.{VarId}
-use Rattle.dk_hierarchy.specs.Descent.{IsDescent}
 use Rattle.dk_hierarchy.specs.Merging.{Joint}
 use Rattle.dk_hierarchy.proofs.TableEngines.{vars_are}
 use Rattle.dk_hierarchy.specs.Samples.{all_vars_of, samples_of}
 use Rattle.dk_hierarchy.specs.Standing.{IsMergedAt}
+use Rattle.dk_hierarchy.specs.declared.way.Way.{Way}
 use Rattle.dk_points.specs.Table.{names}
 use Rattle.dk_presence.specs.Patterns.{count_of}
 use Rattle.dk_report.proofs.Reported.{none_counted, same_section, section_none, section_some, some_counted}
 use Rattle.dk_report.proofs.Stated.{name_at}
 use Rattle.dk_report.specs.Engines.{grammar_at}
 use Rattle.dk_report.specs.Reports.{kept_instances, name_in_table}
-use Rattle.dk_report.proofs.sections.push_section.Goals as goal
+use Rattle.dk_report.proofs.sections.push_section_by.Goals as goal
 
 pub count-samples-requires-clause-there : goal.count-samples-requires-clause-there
 count-samples-requires-clause-there c = let joint : Joint = c.in_ok-merged.merged in All-nil (λ (v : VarId). v.0 < length joint.here.infos)
@@ -24,8 +24,8 @@ kept_by-requires-clause-here c = subst (λ (j : Joint). slice_get c.args.engines
 pub kept_by-requires-clause-same : goal.kept_by-requires-clause-same
 kept_by-requires-clause-same c = ap (λ (j : Joint). j.engines) c.in_ok-here.ensures ∙ c.in_ok-merged.ensures.engines
 
-pub kept_by-requires-clause-ways : goal.kept_by-requires-clause-ways
-kept_by-requires-clause-ways c = subst (λ (j : Joint). IsDescent c.args.points.now c.args.p.0 j.ways []) (sym c.in_ok-here.ensures) c.in_ok-merged.ensures.ways
+pub kept_by-requires-clause-paths : goal.kept_by-requires-clause-paths
+kept_by-requires-clause-paths c = subst (λ (j : Joint). All (λ (way : Way). 0 < way.paths) j.ways) (sym c.in_ok-here.ensures) c.in_ok-merged.ensures.paths
 
 pub kept_by-requires-clause-stands : goal.kept_by-requires-clause-stands
 kept_by-requires-clause-stands c = subst (IsMergedAt c.args.points.now c.args.engines.now c.args.p.0) (sym c.in_ok-here.ensures) c.in_ok-merged.ensures.stands
