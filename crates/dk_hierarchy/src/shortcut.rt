@@ -143,7 +143,11 @@ fn at_first(alloc: Global, marks: &[bool]) -> Result<Vec<Shortcut>, NoMemory>
 {
     let mut shortcuts = Vec::new(alloc);
     for mark in marks {
-        shortcuts.push(if *mark { Shortcut::Stay } else { Shortcut::NoSamples })?;
+        shortcuts.push(if *mark {
+            Shortcut::Stay
+        } else {
+            Shortcut::NoSamples
+        })?;
     }
     Ok(shortcuts)
 }

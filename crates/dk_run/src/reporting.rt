@@ -69,7 +69,15 @@ fn tell_marked<F: Fn(&[u8]) -> bool + Drop, S: Sinks>(
 {
     let points = session.points();
     for p in 0..points.len() {
-        tell_section(alloc, command, session, shortcuts, marks[p as usize], p, sinks)?;
+        tell_section(
+            alloc,
+            command,
+            session,
+            shortcuts,
+            marks[p as usize],
+            p,
+            sinks,
+        )?;
     }
     Ok(())
 }
