@@ -1,5 +1,5 @@
 // Shortcuts of ways past points whose samples all come of one child.
-ghost use Rattle.std.specs.Prelude.{◌≡◌, ◌<◌, ◌∷◌, All, IfOk, OnOk, length, map};
+ghost use Rattle.std.specs.Prelude.{◌≡◌, ◌<◌, ◌^◌, All, IfOk, OnOk, length, map};
 ghost use Rattle.dk_hierarchy.specs.Shortcuts.{AreShortcuts, edges_with_samples, first_shortcut, has_some, only_one, shortcut_at, shortcut_by, shortened, way_of_edge, way_then};
 ghost use Rattle.dk_hierarchy.specs.Standing.{AreEnginesOf};
 
