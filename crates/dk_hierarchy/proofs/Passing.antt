@@ -43,11 +43,11 @@ as_list (Some e) = e ∷ []
 -- ---- the edge from the only child that has samples
 none_left : (q : Edge → Bool) (f : Edge → Samples) → ((e : Edge) → q e ≡ false → f e ≡ []) → (es : List Edge) → flat_map f es ≡ flat_map f (filter q es)
 none_left q f none [] = refl
-none_left q f none (e ∷ es) = by (q e) refl
+none_left q f none (e ∷ es) = by (q e) refl (none_left q f none es)
   where
-    by : (b : Bool) → q e ≡ b → f e ++ flat_map f es ≡ flat_map f (if b then e ∷ filter q es else filter q es)
-    by true is = ap (λ (xs : Samples). f e ++ xs) (none_left q f none es)
-    by false is = ap (λ (xs : Samples). xs ++ flat_map f es) (none e is) ∙ none_left q f none es
+    by : (b : Bool) → q e ≡ b → flat_map f es ≡ flat_map f (filter q es) → f e ++ flat_map f es ≡ flat_map f (if b then e ∷ filter q es else filter q es)
+    by true is rest = ap (λ (xs : Samples). f e ++ xs) rest
+    by false is rest = ap (λ (xs : Samples). xs ++ flat_map f es) (none e is) ∙ rest
 
 one_alone : (es : List Edge) (e : Edge) → only_one es ≡ Some e → es ≡ e ∷ []
 one_alone [] e is = absurd (cc)

@@ -1,5 +1,5 @@
 -- Ways that go on by shortcuts.
-use Rattle.std.specs.Prelude.{◌≡◌, ◌<◌, ◌++◌, ℕ, zero, suc, List, [], ◌∷◌, length, map, slice_index, Option, Some, None, refl}
+use Rattle.std.specs.Prelude.{◌≡◌, ◌<◌, ◌++◌, ℕ, zero, suc, IfSome, List, [], ◌∷◌, length, map, slice_index, Option, Some, None, refl}
 use Rattle.std.proofs.Common.{◌∙◌, ap, arith, subst, sym}
 use Rattle.std.proofs.lemmas.List.{append-nil}
 use Rattle.dk_graph.proofs.Places.{some-injective}
@@ -24,6 +24,10 @@ pub if_holds : (Q : List (ℕ × List Way) → Type 0) (ranks : List ℕ) (level
     → ((w : Way) → o ≡ Some w → Q (with_way_if ranks levels (Some w))) → Q (with_way_if ranks levels o)
 if_holds Q ranks levels None holds each = holds
 if_holds Q ranks levels (Some w) holds each = each w refl
+
+pub if_within : (ps : List Point) (n : ℕ) → length ps ≡ n → (o : Option Way) → ((w : Way) → o ≡ Some w → w.point.0 < length ps) → IfSome o (λ w. w.point.0 < n)
+if_within ps n same None each = tt
+if_within ps n same (Some w) each = subst (λ m. w.point.0 < m) same (each w refl)
 
 -- ---- where they lead
 module _ (ps : List Point) (p : ℕ) where

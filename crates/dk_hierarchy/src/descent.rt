@@ -1,8 +1,8 @@
 // Going down from a point, the ways to points of the greatest rank first.
-ghost use Rattle.std.specs.Prelude.{◌≡◌, ◌<◌, ◌++◌, [], ◌∷◌, IfOk, OnOk, length};
+ghost use Rattle.std.specs.Prelude.{◌≡◌, ◌<◌, ◌++◌, [], ◌∷◌, IfOk, IfSome, OnOk, length};
 ghost use Rattle.dk_graph.specs.Graphs.{AreRanks};
 ghost use Rattle.dk_hierarchy.specs.Descent.{AreBelow, AreLevels, ways_in};
-ghost use Rattle.dk_hierarchy.specs.Shortcuts.{IsDescentBy, LeadDown, way_on, with_ways_on};
+ghost use Rattle.dk_hierarchy.specs.Shortcuts.{IsDescentBy, LeadDown, way_on, with_way_if, with_ways_on};
 ghost use Rattle.dk_hierarchy.specs.Standing.{AreEnginesOf};
 ghost use Rattle.dk_hierarchy.specs.Ways.{way_below};
 ghost use Rattle.dk_points.specs.Links.{nodes};
@@ -60,6 +60,17 @@ impl<'a> Descent<'a> {
         shortened(self.alloc, self.shortcuts, below)
     }
 
+    // A way more, if there is one, in the level of its lower point.
+    fn add_if(&self, levels: &mut Levels, way: Option<Way>) -> Result<(), NoMemory>
+        requires { IfSome way (λ w. w.point.0 < length self.now.ranks.now) }
+        ensures { OnOk result (levels.new ≡ with_way_if self.now.ranks.now levels.old way) }
+    {
+        match way {
+            None => Ok(()),
+            Some(way) => levels.add(self.ranks[way.point.0 as usize], way),
+        }
+    }
+
     // The ways that go on from a way, each in the level of its lower point.
     fn add_ways_below(&self, levels: &mut Levels, way: &Way) -> Result<(), NoMemory>
         requires engines { AreEnginesOf self.now.points.now self.now.engines.now }
@@ -69,9 +80,8 @@ impl<'a> Descent<'a> {
         ensures { OnOk result (levels.new ≡ with_ways_on self.now.points.now self.now.ranks.now self.now.shortcuts.now levels.old way.now) }
     {
         for edge in self.points.into(way.point) {
-            if let Some(on) = self.way_on(way, *edge)? {
-                levels.add(self.ranks[on.point.0 as usize], on)?;
-            }
+            let on = self.way_on(way, *edge)?;
+            self.add_if(levels, on)?;
         }
         Ok(())
     }

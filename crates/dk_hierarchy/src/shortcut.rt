@@ -1,7 +1,9 @@
 // Shortcuts of ways past points whose samples all come of one child.
-ghost use Rattle.std.specs.Prelude.{◌≡◌, ◌<◌, ◌^◌, All, IfOk, OnOk, length, map};
+ghost use Rattle.std.specs.Prelude.{◌≡◌, ◌<◌, ◌^◌, All, IfOk, OnOk, false, length, map};
+ghost use Rattle.dk_graph.specs.Graphs.{has_cycle};
 ghost use Rattle.dk_hierarchy.specs.Shortcuts.{AreShortcuts, edges_with_samples, first_shortcut, has_some, only_one, shortcut_at, shortcut_by, shortened, way_of_edge, way_then};
 ghost use Rattle.dk_hierarchy.specs.Standing.{AreEnginesOf};
+ghost use Rattle.dk_points.specs.Links.{nodes};
 
 use crate::Way;
 use crate::composing::{onward, partners_of};
@@ -123,6 +125,7 @@ fn shorten(
     p: PointId,
 ) -> Result<(), NoMemory>
     requires engines { AreEnginesOf points.now engines.now }
+    requires acyclic { has_cycle (nodes points.now) ≡ false }
     requires point { p.0 < length points.now }
     requires long { length shortcuts.old ≡ length points.now }
     requires shortcuts { AreShortcuts points.now engines.now shortcuts.old }
