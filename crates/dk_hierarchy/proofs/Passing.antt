@@ -186,3 +186,10 @@ at_first ps engines marks long are = record {
         emptied (samples_of ps own p)
         (sym (get_or-map-range_with_len (has_samples ps own) 0 (length ps) p p true (omega (arith, within, long)) (omega arith))
         ∙ (ap (λ (ms : List Bool). slice_index_or ms p true) (sym (are own stand)) ∙ at))
+
+-- ---- without any
+pub none_lead : (ps : List Point) (p : ℕ) (rest : Way) → shortcut_at [] p ≡ To rest → LeadsDown ps p rest
+none_lead ps p rest to = absurd (cc)
+
+pub no_shortcuts : (ps : List Point) (engines : List Whole) → AreShortcuts ps engines []
+no_shortcuts ps engines = record { down = none_lead ps; hold = λ own stand p. refl }
