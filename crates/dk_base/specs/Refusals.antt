@@ -51,3 +51,7 @@ why_name JoinedState = codes "JoinedState"
 -- number and name, as they are printed
 abbrev pub why_text : Why → List ℕ
 why_text why = decimal (why_number why) ++ codes " " ++ why_name why
+
+-- the message of a fault: a line of this file is refused
+abbrev pub fault_line : List ℕ → ℕ → Why → List ℕ
+fault_line file line why = codes "daikon: " ++ file ++ codes ":" ++ decimal line ++ codes ": " ++ why_text why ++ codes "\n"

@@ -33,3 +33,14 @@ pub enum Fault {
     #[error("out of memory")]
     NoMemory,
 }
+
+impl From<NoMemory> for Fault {
+    ghost use Rattle.std.specs.Prelude.{◌≡◌};
+    ghost use Rattle.dk_base.specs.declared.faults.Fault.TheVariants as fault;
+
+    ghost from_gives = { λ _ e. e ≡ fault.NoMemory };
+
+    fn from(_: NoMemory) -> Self {
+        Fault::NoMemory
+    }
+}

@@ -165,10 +165,7 @@ impl Kept {
                 point,
                 line: _,
                 values,
-            } => match feed(arena, &mut self.engines[point.0 as usize], values) {
-                Ok(()) => Ok(()),
-                Err(NoMemory) => Err(Fault::NoMemory),
-            },
+            } => Ok(feed(arena, &mut self.engines[point.0 as usize], values)?),
         }
     }
 
@@ -182,10 +179,7 @@ impl Kept {
         ensures file { IfErr result (IsInFile (file_in self.old.reader)) }
         ensures unread { (file : ℕ) → IsErrOf result (Fault.Read file) → ⊥ }
     {
-        let none = match Kept::new(self.alloc, self.grammar) {
-            Ok(none) => none,
-            Err(NoMemory) => return Err(Fault::NoMemory),
-        };
+        let none = Kept::new(self.alloc, self.grammar)?;
         let kept = replace(self, none).with_declaration(line, decl)?;
         *self = kept;
         Ok(())
@@ -207,15 +201,13 @@ impl Kept {
             engines,
         } = self;
         let (reader, _) = reader.declare(line, decl)?;
-        match with_new(alloc, engines, reader.points(), grammar) {
-            Ok(engines) => Ok(Kept {
-                alloc,
-                reader,
-                grammar,
-                engines,
-            }),
-            Err(NoMemory) => Err(Fault::NoMemory),
-        }
+        let engines = with_new(alloc, engines, reader.points(), grammar)?;
+        Ok(Kept {
+            alloc,
+            reader,
+            grammar,
+            engines,
+        })
     }
 
     /// Without what ends with a file: no entry waits any more.

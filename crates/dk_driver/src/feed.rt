@@ -72,10 +72,10 @@ impl<C: Consumer> Feed<C> {
     {
         let arena = Bump::new(self.alloc);
         match self.events.next(&arena, inputs, lines)? {
-            Some(event) => match self.consumer.take(self.events.points(), place, event) {
-                Ok(()) => Ok(true),
-                Err(NoMemory) => Err(Fault::NoMemory),
-            },
+            Some(event) => {
+                self.consumer.take(self.events.points(), place, event)?;
+                Ok(true)
+            }
             None => Ok(false),
         }
     }

@@ -169,10 +169,7 @@ impl Events {
                 point,
                 line,
                 values,
-            } => match sample(arena, self.vars(point), point, line, values) {
-                Ok(event) => Ok(event),
-                Err(NoMemory) => Err(Fault::NoMemory),
-            },
+            } => Ok(sample(arena, self.vars(point), point, line, values)?),
         }
     }
 
@@ -187,10 +184,7 @@ impl Events {
         ensures file { IfErr result (IsInFile (file_of self.old)) }
         ensures unread { (file : ℕ) → IsErrOf result (Fault.Read file) → ⊥ }
     {
-        let none = match Events::new(self.alloc, self.ignores) {
-            Ok(none) => none,
-            Err(NoMemory) => return Err(Fault::NoMemory),
-        };
+        let none = Events::new(self.alloc, self.ignores)?;
         let (events, declared) = replace(self, none).with_declaration(line, decl)?;
         *self = events;
         Ok(declared)
@@ -212,18 +206,14 @@ impl Events {
             ignores,
         } = self;
         let (reader, declared) = reader.declare(line, decl)?;
-        match complete(alloc, reader.points(), vars) {
-            Ok(vars) => Ok((
-                Events {
-                    alloc,
-                    reader,
-                    vars,
-                    ignores,
-                },
-                declared,
-            )),
-            Err(NoMemory) => Err(Fault::NoMemory),
-        }
+        let vars = complete(alloc, reader.points(), vars)?;
+        let events = Events {
+            alloc,
+            reader,
+            vars,
+            ignores,
+        };
+        Ok((events, declared))
     }
 
     /// Without what ends with a file. The next block is of the next file.

@@ -2,6 +2,7 @@
 use Rattle.std.proofs.Common.{◌≡◌, ◌≢◌, ◌<◌, ◌⊎◌, inl, inr, ℕ, List, take, length, Option, Some, refl, sym, ◌∙◌, ap, subst, arith}
 use Rattle.std.proofs.lemmas.Bool.{cases_lt}
 use Rattle.std.proofs.lemmas.List.{length-take, take-take, take_all}
+use Rattle.dk_base.specs.Refusals.{fault_line}
 use Rattle.dk_events.specs.declared.ended.Ended.{Ended}
 use Rattle.dk_events.specs.declared.ended.Ended.TheVariants.{Done, Refused, Usage, Read, Write, NoMemory}
 use Rattle.dk_io.specs.Outside.{HeldFile, Absent, Rose}
@@ -12,7 +13,6 @@ use Rattle.dk_driver.proofs.Complete.{front_held}
 use Rattle.dk_driver.specs.Files.{AreHeldFiles, file_name_at}
 use Rattle.dk_driver.specs.Reads.{AtStart, Break, HasBroken, Within, held_file_at}
 use Rattle.dk_program.proofs.Completing.{asked_completes}
-use Rattle.dk_program.specs.Messages.{fault_line}
 use Rattle.dk_program.specs.Moments.{IsCalm, Outside}
 use Rattle.dk_program.specs.Outputs.{Output, only_on}
 use Rattle.dk_program.specs.Statuses.{GivesOutput}

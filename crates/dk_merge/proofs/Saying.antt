@@ -1,6 +1,7 @@
 -- What each end of a run says.
 use Rattle.std.proofs.Common.{◌≡◌, ◌<◌, ◌+◌, ◌⊎◌, inl, inr, ℕ, List, [], length, Option, Some, None, refl, sym, ◌∙◌, ap, subst, arith}
 use Rattle.std.specs.Option.{option_map_or}
+use Rattle.dk_base.specs.Refusals.{fault_line}
 use Rattle.dk_base.specs.declared.why.Why.{Why}
 use Rattle.dk_events.specs.declared.ended.Ended.{Ended}
 use Rattle.dk_events.specs.declared.ended.Ended.TheVariants.{Done, Refused, Usage, Read, Write, NoMemory}
@@ -14,7 +15,7 @@ use Rattle.dk_driver.specs.declared.fault.FileFault.{FileFault}
 use Rattle.dk_driver.specs.declared.fault.FileFault.TheVariants as f
 use Rattle.dk_program.proofs.Saying.{all_there, front_there, memory_says, only_says}
 use Rattle.dk_program.specs.Ending.{EndsByFault, EndsWith}
-use Rattle.dk_program.specs.Messages.{fault_line, unread_line}
+use Rattle.dk_program.specs.Messages.{unread_line}
 use Rattle.dk_program.specs.Moments.{Outside}
 use Rattle.dk_program.specs.Outputs.{IsFront, Output, only_on}
 use Rattle.dk_program.specs.Statuses.{OutputIsWritten, StatusSays}

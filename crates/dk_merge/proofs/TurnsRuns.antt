@@ -3,6 +3,7 @@ use Rattle.std.proofs.Common.{◌≡◌, ◌+◌, ◌-◌, ℕ, List, [], ◌∷
 use Rattle.std.proofs.lemmas.List.{take-map}
 use Rattle.std.specs.Io.{StartsWith}
 use Rattle.std.specs.Option.{option_map_or}
+use Rattle.dk_base.specs.Refusals.{fault_line}
 use Rattle.dk_base.specs.Reading.{LineFault}
 use Rattle.dk_blocks.specs.History.{History, file_ended, no_history}
 use Rattle.dk_events.specs.declared.ended.Ended.TheVariants as ended
@@ -10,7 +11,6 @@ use Rattle.dk_io.specs.Outside.{HeldFile, Holds, Rose}
 use Rattle.dk_io.specs.Streams.{Texts}
 use Rattle.dk_io.specs.declared.outside.Stream.TheVariants.{Messages}
 use Rattle.dk_base.specs.declared.why.Why.{Why}
-use Rattle.dk_program.specs.Messages.{fault_line}
 use Rattle.dk_program.specs.Outputs.{IsFront, Output, only_on, texts_followed_by}
 use Rattle.dk_driver.specs.Files.{AreHeldFiles, FaultAt, ended_file, file_name_at}
 use Rattle.dk_driver.specs.Reads.{AtStart, Break, HasBroken, Within, held_file_at}

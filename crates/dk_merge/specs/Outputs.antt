@@ -1,12 +1,12 @@
 -- What a run writes.
 use Rattle.std.specs.Prelude.{◌≡◌, ◌++◌, ℕ, List, [], ◌∷◌, codes, false, true, length, Option, Some, None}
 use Rattle.std.specs.Io.{StartsWith}
+use Rattle.dk_base.specs.Refusals.{fault_line}
 use Rattle.dk_base.specs.declared.why.Why.{Why}
 use Rattle.dk_blocks.specs.History.{History}
 use Rattle.dk_core.specs.Resuming.{IsStart, state_file}
 use Rattle.dk_io.specs.declared.outside.Stream.TheVariants.{Messages}
 use Rattle.dk_driver.specs.Files.{FaultAt, ended_file, file_name_at}
-use Rattle.dk_program.specs.Messages.{fault_line}
 use Rattle.dk_program.specs.Outputs.{IsFront, Output, only_on}
 use Rattle.dk_run.specs.Courses.{first_fault, first_start}
 use Rattle.dk_run.specs.Outputs.{output_of}

@@ -1,5 +1,6 @@
 -- What each status of a run says.
 use Rattle.std.specs.Prelude.{◌≡◌, ◌≢◌, ◌≤◌, ◌<◌, ◌⊎◌, ◌+◌, ◌-◌, ℕ, List, [], map, take, length, All, Option, Some, None}
+use Rattle.dk_base.specs.Refusals.{fault_line}
 use Rattle.dk_base.specs.declared.why.Why.{Why}
 use Rattle.dk_events.specs.declared.ended.Ended.{Ended}
 use Rattle.dk_events.specs.declared.ended.Ended.TheVariants.{Done, Refused, Read, NoMemory}
@@ -9,7 +10,7 @@ use Rattle.dk_arguments.specs.declared.request.Request.{Request}
 use Rattle.dk_arguments.specs.declared.request.Request.TheVariants.{Run}
 use Rattle.dk_driver.specs.Files.{AreHeldFiles, FaultAt, file_name_at}
 use Rattle.dk_driver.specs.Reads.{AtStart, Break, HasBroken, Within, held_file_at, rest_behind}
-use Rattle.dk_program.specs.Messages.{fault_line, unread_line}
+use Rattle.dk_program.specs.Messages.{unread_line}
 use Rattle.dk_program.specs.Moments.{IsCalm, Outside}
 use Rattle.dk_program.specs.Outputs.{Output, only_on, texts_followed_by}
 use Rattle.dk_program.specs.Statuses.{Coming, Completes, GivesOutput, ComesTo as ProgramComesTo, IsCutShort as IsCutBefore, StatusSaysBy}

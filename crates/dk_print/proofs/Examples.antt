@@ -2,6 +2,7 @@
 use Prim.Native.String.{String}
 use Rattle.std.specs.Prelude.{◌≡◌, ℕ, pos, negsuc, true, false, List, [], ◌∷◌, ◌++◌, codes, length, map, refl}
 use Rattle.std.specs.Fmt.{digits}
+use Rattle.dk_base.specs.Refusals.{fault_line}
 use Rattle.dk_base.specs.declared.kinds.Form.TheVariants as form
 use Rattle.dk_base.specs.declared.kinds.Kind.TheVariants as kind
 use Rattle.dk_base.specs.declared.kinds.VarId.{VarId}
@@ -11,7 +12,7 @@ use Rattle.dk_forms.specs.declared.states.State.{State}
 use Rattle.dk_forms.specs.declared.states.State.TheVariants.{Holds, Least, Greatest, Ints, Truth, Code, Texts, Modulus, Straight, Plane, Offset}
 use Rattle.dk_template.specs.Templates.{rows}
 use Rattle.dk_print.specs.Names.{is_plain_name}
-use Rattle.dk_print.specs.Sections.{fault_line, heading, stats_line}
+use Rattle.dk_print.specs.Sections.{heading, stats_line}
 use Rattle.dk_print.specs.Texts.{instance_text, row_text, row_texts}
 
 -- over the names x, y and z
@@ -150,7 +151,7 @@ unfolding stats_line digits
 sizes = refl
 
 refused : fault_line (codes "t") 9 why.Truncated ≡ codes "daikon: t:9: 12 Truncated\n"
-unfolding fault_line digits
+unfolding digits
 refused = refl
 
 -- ---- names that are plain, and names that aren't

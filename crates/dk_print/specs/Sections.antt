@@ -1,9 +1,7 @@
 -- The texts of sections, and the lines round them.
 use Rattle.std.specs.Prelude.{ℕ, List, ◌++◌, codes, flat_map, replicate}
 use Rattle.std.specs.Fmt.{decimal}
-use Rattle.dk_base.specs.Refusals.{why_text}
 use Rattle.dk_base.specs.declared.kinds.VarInfo.{VarInfo}
-use Rattle.dk_base.specs.declared.why.Why.{Why}
 use Rattle.dk_engine.specs.declared.counts.Counts.{Counts}
 use Rattle.dk_filters.specs.declared.candidate.Candidate.{Candidate}
 use Rattle.dk_print.specs.Texts.{instance_text}
@@ -43,11 +41,6 @@ unfoldable pub stats_line : List ℕ → Counts → List ℕ
 stats_line name counts =
     codes "stats " ++ name ++ codes ": samples " ++ decimal counts.samples
     ++ kept_text counts.leaders counts.constants counts.patterns counts.slots
-
--- ---- faults
--- a line of this file is refused
-unfoldable pub fault_line : List ℕ → ℕ → Why → List ℕ
-fault_line file line why = codes "daikon: " ++ file ++ codes ":" ++ decimal line ++ codes ": " ++ why_text why ++ codes "\n"
 
 -- ---- reports by the way
 abbrev pub after_blocks_line : ℕ → List ℕ

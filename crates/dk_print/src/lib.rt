@@ -9,8 +9,7 @@ mod states;
 mod terms;
 mod values;
 
+pub use dk_base::{fault, push_fault};
 pub use instances::{instance, push_instance};
 pub use parts::{Part, parts_of};
-pub use sections::{
-    fault, push_count, push_fault, push_heading, push_section, push_stats, section, stats,
-};
+pub use sections::{push_count, push_heading, push_section, push_stats, section, stats};

@@ -1,10 +1,9 @@
 // The texts of sections, and the lines round them.
-ghost use Rattle.std.specs.Prelude.{◌≡◌, ◌++◌, IfOk, OnOk, codes, flat_map};
-ghost use Rattle.dk_base.specs.Refusals.{why_text};
-ghost use Rattle.dk_print.specs.Sections.{candidate_line, count_text, fault_line, heading, kept_text, samples_text, section_text, stats_line, variables_text};
+ghost use Rattle.std.specs.Prelude.{◌≡◌, ◌++◌, IfOk, OnOk, flat_map};
+ghost use Rattle.dk_print.specs.Sections.{candidate_line, count_text, heading, kept_text, samples_text, section_text, stats_line, variables_text};
 
 use crate::instances::push_instance;
-use dk_base::{NoMemory, Text, VarInfo, Why};
+use dk_base::{NoMemory, Text, VarInfo};
 use dk_engine::Counts;
 use dk_filters::Candidate;
 use itoa::Integer;
@@ -133,35 +132,5 @@ pub fn stats(alloc: Global, name: &[u8], counts: Counts) -> Result<Text, NoMemor
 {
     let mut text = Text::new(alloc);
     push_stats(&mut text, name, counts)?;
-    Ok(text)
-}
-
-// Why a line is refused, by number and name, and the end of the line.
-fn push_why(text: &mut Text, why: Why) -> Result<(), NoMemory>
-    ensures { OnOk result (text.new ≡ text.old ++ (codes ": " ++ why_text why ++ codes "\n")) }
-{
-    push_size(text, b": ", why.number())?;
-    text.append(b" ")?;
-    text.append(why.name().as_bytes())?;
-    text.append(b"\n")
-}
-
-/// The message of a fault, behind the text: a line of this file is refused. After an error the text may hold a part of it.
-#[tactic(auto, unfolding(crate::specs::Sections::fault_line))]
-pub fn push_fault(text: &mut Text, file: &[u8], line: u64, why: Why) -> Result<(), NoMemory>
-    ensures { OnOk result (text.new ≡ text.old ++ fault_line file.now line why) }
-{
-    text.append(b"daikon: ")?;
-    text.append(file)?;
-    push_size(text, b":", line)?;
-    push_why(text, why)
-}
-
-/// The message of a fault, as `push_fault` writes it.
-pub fn fault(alloc: Global, file: &[u8], line: u64, why: Why) -> Result<Text, NoMemory>
-    ensures { IfOk result (λ text. text ≡ fault_line file.now line why) }
-{
-    let mut text = Text::new(alloc);
-    push_fault(&mut text, file, line, why)?;
     Ok(text)
 }

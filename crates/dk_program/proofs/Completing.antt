@@ -1,5 +1,6 @@
 -- Where no fault of the outside rises, a run over files that are held comes to its end.
 use Rattle.std.proofs.Common.{◌≡◌, ◌⊎◌, inl, inr, ℕ, List, map, Option, Some, None, Result, Ok, Err, refl, sym, ◌∙◌, ap, subst}
+use Rattle.dk_base.specs.Refusals.{fault_line}
 use Rattle.dk_blocks.specs.History.{History}
 use Rattle.dk_events.specs.declared.ended.Ended.{Ended}
 use Rattle.dk_events.specs.declared.ended.Ended.TheVariants.{Done, Refused, NoMemory}
@@ -17,7 +18,6 @@ use Rattle.dk_driver.specs.declared.feed.Feed.{Feed}
 use Rattle.dk_driver.specs.declared.traces.Traces.{Traces}
 use Rattle.dk_program.proofs.Saying.{due_of, followed_only, read_output}
 use Rattle.dk_program.specs.Ending.{EndsBy, EndsWith, EndsWithoutRun, ReportEnds, status_of}
-use Rattle.dk_program.specs.Messages.{fault_line}
 use Rattle.dk_program.specs.Moments.{IsCalm, Outside}
 use Rattle.dk_program.specs.Outputs.{Output, only_on}
 use Rattle.dk_program.specs.Statuses.{Completes, GivesOutput, IsCalmlyComplete, IsComplete}

@@ -1,5 +1,6 @@
 -- A run that reads a file in front of its others.
 use Rattle.std.proofs.Common.{◌≡◌, ◌≢◌, ◌≤◌, ◌-◌, inl, inr, ℕ, List, [], length, Bool, Option, Some, IfSome, Result, Ok, Err, refl, ◌∙◌, ap, subst}
+use Rattle.dk_base.specs.Refusals.{fault_line}
 use Rattle.dk_base.specs.Reading.{LineFault}
 use Rattle.dk_events.specs.declared.ended.Ended.{Ended}
 use Rattle.dk_events.specs.declared.ended.Ended.TheVariants as ended
@@ -19,7 +20,7 @@ use Rattle.dk_driver.specs.declared.fault.FileFault.TheVariants.{Refused, Start,
 use Rattle.dk_program.proofs.Completing.{message_gives, short_of}
 use Rattle.dk_program.proofs.Saying.{memory_says, only_says, says_on}
 use Rattle.dk_program.specs.Ending.{EndsByFault}
-use Rattle.dk_program.specs.Messages.{fault_line, unread_line}
+use Rattle.dk_program.specs.Messages.{unread_line}
 use Rattle.dk_program.specs.Moments.{IsCalm, Outside}
 use Rattle.dk_program.specs.Openings.{FirstFaultSays, IsBroken, IsOfMay, IsOpened, IsOpeningComplete, Opened, Opening, OpeningComesTo, OpeningGives, opened_with}
 use Rattle.dk_program.specs.Outputs.{Output, only_on}

@@ -2,6 +2,7 @@
 use Rattle.std.proofs.Common.{◌≡◌, ◌≢◌, ◌≤◌, ◌<◌, ◌⊎◌, ◌+◌, inl, inr, ℕ, zero, suc, List, [], ◌∷◌, map, take, length, get_or, Option, Some, None, All, refl, sym, ◌∙◌, ap, subst, arith}
 use Rattle.std.proofs.lemmas.List.{length-take}
 use Rattle.std.specs.Io.{StartsWith}
+use Rattle.dk_base.specs.Refusals.{fault_line}
 use Rattle.dk_base.specs.declared.why.Why.{Why}
 use Rattle.dk_blocks.specs.History.{History}
 use Rattle.dk_events.specs.declared.ended.Ended.{Ended}
@@ -25,7 +26,7 @@ use Rattle.dk_driver.specs.declared.fault.FilesFault.TheVariants as f
 use Rattle.dk_driver.specs.declared.traces.Traces.{Traces}
 use Rattle.dk_program.proofs.Writing.{front_all, front_take, known_nothing}
 use Rattle.dk_program.specs.Ending.{EndsBy, EndsWith, EndsWithoutRun, ReportEnds, status_of}
-use Rattle.dk_program.specs.Messages.{fault_line, unread_line}
+use Rattle.dk_program.specs.Messages.{unread_line}
 use Rattle.dk_program.specs.Moments.{Outside}
 use Rattle.dk_program.specs.Outputs.{FollowedByFront, IsFront, Output, only_on, texts_followed_by}
 use Rattle.dk_program.specs.Statuses.{Coming, ComesTo, IsCutShort, IsDone, IsRefused, IsUnread, OutputIsWritten, RunComesTo, Says, StatusSays}

@@ -1,5 +1,6 @@
 -- How a run ends: what it writes last, and its status.
 use Rattle.std.specs.Prelude.{◌≡◌, ◌⊎◌, ℕ, List, Option, Some, None}
+use Rattle.dk_base.specs.Refusals.{fault_line}
 use Rattle.dk_blocks.specs.History.{History}
 use Rattle.dk_events.specs.declared.ended.Ended.{Ended}
 use Rattle.dk_events.specs.declared.ended.Ended.TheVariants.{Done, Read, Refused, Usage, Write, NoMemory}
@@ -16,7 +17,7 @@ use Rattle.dk_driver.specs.declared.fault.FileFault.{FileFault}
 use Rattle.dk_driver.specs.declared.fault.FileFault.TheVariants as one
 use Rattle.dk_driver.specs.declared.fault.FilesFault.{FilesFault}
 use Rattle.dk_driver.specs.declared.fault.FilesFault.TheVariants as f
-use Rattle.dk_program.specs.Messages.{fault_line, unread_line}
+use Rattle.dk_program.specs.Messages.{unread_line}
 use Rattle.dk_program.specs.Telling.{CutOff, ToldWhole}
 use Rattle.dk_program.specs.declared.reporting.Halt.{Halt}
 use Rattle.dk_program.specs.declared.reporting.Halt.TheVariants as halt

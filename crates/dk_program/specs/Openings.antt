@@ -1,5 +1,6 @@
 -- Runs that read a file in front of their others.
 use Rattle.std.specs.Prelude.{◌≡◌, ◌≢◌, ◌⊎◌, ◌-◌, ℕ, List, [], length, Option, Some, Result, Ok, Err}
+use Rattle.dk_base.specs.Refusals.{fault_line}
 use Rattle.dk_base.specs.Reading.{LineFault}
 use Rattle.dk_base.specs.declared.why.Why.{Why}
 use Rattle.dk_base.specs.declared.why.Why.TheVariants.{LongLine, TooLong}
@@ -17,7 +18,7 @@ use Rattle.dk_driver.specs.Walks.{total_limit}
 use Rattle.dk_driver.specs.declared.fault.FileFault.{FileFault}
 use Rattle.dk_driver.specs.declared.fault.FileFault.TheVariants.{Refused, Start, Read, NoMemory}
 use Rattle.dk_driver.specs.declared.traces.Traces.{Traces}
-use Rattle.dk_program.specs.Messages.{fault_line, unread_line}
+use Rattle.dk_program.specs.Messages.{unread_line}
 use Rattle.dk_program.specs.Moments.{IsCalm, Outside}
 use Rattle.dk_program.specs.Outputs.{Output, only_on}
 use Rattle.dk_program.specs.Statuses.{Coming, GivesOutput, IsComplete, RunComesTo}

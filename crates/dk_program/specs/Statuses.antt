@@ -1,5 +1,6 @@
 -- What each status of a run says.
 use Rattle.std.specs.Prelude.{◌≡◌, ◌≢◌, ◌<◌, ◌⊎◌, ◌+◌, ℕ, List, [], map, take, length, All, Option, Some, None}
+use Rattle.dk_base.specs.Refusals.{fault_line}
 use Rattle.dk_events.specs.declared.ended.Ended.{Ended}
 use Rattle.dk_events.specs.declared.ended.Ended.TheVariants.{Done, Refused, Usage, Read, Write, NoMemory}
 use Rattle.dk_io.specs.Outside.{Absent, Rose}
@@ -10,7 +11,7 @@ use Rattle.dk_arguments.specs.declared.request.Request.TheVariants.{Run, Help, V
 use Rattle.dk_driver.specs.Files.{AreHeldFiles, FaultAt, ended_file, file_name_at}
 use Rattle.dk_driver.specs.Reads.{AreClean, Break, HasBroken, UnreadLeaves, held_file_at, helds_of, rest_behind}
 use Rattle.dk_driver.specs.Walks.{first_fault}
-use Rattle.dk_program.specs.Messages.{fault_line, unread_line}
+use Rattle.dk_program.specs.Messages.{unread_line}
 use Rattle.dk_program.specs.Moments.{IsCalm, Outside}
 use Rattle.dk_program.specs.Outputs.{FollowedByFront, Output, only_on, texts_followed_by}
 use Rattle.dk_program.specs.Tasks.{IsOutput, Task}

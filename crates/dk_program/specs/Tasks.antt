@@ -1,5 +1,6 @@
 -- What runs are to do, and what they write.
 use Rattle.std.specs.Prelude.{◌≡◌, ℕ, List, Result, Ok, Err}
+use Rattle.dk_base.specs.Refusals.{fault_line}
 use Rattle.dk_blocks.specs.History.{History}
 use Rattle.dk_io.specs.declared.outside.Stream.TheVariants.{Report, Messages}
 use Rattle.dk_driver.specs.Consuming.{Record, Told}
@@ -7,7 +8,6 @@ use Rattle.dk_driver.specs.Files.{FaultAt, File, file_name_at}
 use Rattle.dk_driver.specs.Standing.{told_by}
 use Rattle.dk_driver.specs.Walks.{Walk, walk_of}
 use Rattle.dk_driver.specs.declared.traces.Traces.{Traces}
-use Rattle.dk_program.specs.Messages.{fault_line}
 use Rattle.dk_program.specs.Outputs.{Output, only_on}
 
 -- What a run is to do: the files that it reads, how many bytes they may have together, and which text is the report of what they tell.

@@ -1,13 +1,14 @@
 // Texts that end a run.
 ghost use Rattle.std.specs.Prelude.{◌≡◌, ◌<◌, IfOk, length, string_bytes};
+ghost use Rattle.dk_base.specs.Refusals.{fault_line as fault_text};
 ghost use Rattle.dk_io.specs.declared.outside.Stream.TheVariants as stream;
 ghost use Rattle.dk_driver.specs.Reads.{IsPlaced};
 ghost use Rattle.dk_driver.specs.Files.{file_name_at};
 ghost use Rattle.dk_program.specs.Ending.{EndsBy, EndsByFault, EndsWith};
-ghost use Rattle.dk_program.specs.Messages.{fault_line as fault_text, unread_line as unread_text};
+ghost use Rattle.dk_program.specs.Messages.{unread_line as unread_text};
 
 use dk_arguments::{Arguments, Word, usage};
-use dk_base::Why;
+use dk_base::{NoMemory, Why, fault};
 use dk_driver::{FileFault, FilesFault};
 use dk_events::Ended;
 use dk_io::{Failed, Sinks, Stream, write_all};
@@ -58,14 +59,6 @@ fn unread_line(alloc: Global, name: &str) -> Result<String, AllocError>
     format!(in alloc; "daikon: cannot read {name}\n")
 }
 
-// The line that tells that a line of a file is refused.
-fn fault_line(alloc: Global, name: &str, line: u64, why: Why) -> Result<String, AllocError>
-    ensures { IfOk result (λ text. string_bytes text ≡ fault_text name.now line why) }
-{
-    let reason = why.to_string(alloc)?;
-    format!(in alloc; "daikon: {name}:{line}: {reason}\n")
-}
-
 // Tells that a file can't be read.
 fn tell_unread<S: Sinks>(alloc: Global, name: &str, sinks: &mut S) -> Ended
     ensures { EndsWith Ended.Read stream.Messages (unread_text name.now) (S.written sinks.old) (S.written sinks.new) (S.faults sinks.old) (S.faults sinks.new) result }
@@ -80,9 +73,9 @@ fn tell_unread<S: Sinks>(alloc: Global, name: &str, sinks: &mut S) -> Ended
 fn tell_refused<S: Sinks>(alloc: Global, name: &str, line: u64, why: Why, sinks: &mut S) -> Ended
     ensures { EndsWith Ended.Refused stream.Messages (fault_text name.now line why) (S.written sinks.old) (S.written sinks.new) (S.faults sinks.old) (S.faults sinks.new) result }
 {
-    match fault_line(alloc, name, line, why) {
-        Ok(text) => end_with(sinks, Stream::Messages, text.as_bytes(), Ended::Refused),
-        Err(_) => Ended::NoMemory,
+    match fault(alloc, name.as_bytes(), line, why) {
+        Ok(text) => end_with(sinks, Stream::Messages, text.as_slice(), Ended::Refused),
+        Err(NoMemory) => Ended::NoMemory,
     }
 }
 

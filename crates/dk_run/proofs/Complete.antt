@@ -2,6 +2,7 @@
 use Rattle.std.proofs.Common.{◌≡◌, ◌≤◌, ◌<◌, ◌+◌, ◌++◌, ◌-◌, inl, inr, Bool, ℕ, zero, suc, List, [], ◌∷◌, map, take, length, Option, Some, None, Result, Ok, Err, refl, sym, ◌∙◌, ap, subst, arith}
 use Rattle.std.proofs.lemmas.Bool.{cases_lt}
 use Rattle.std.proofs.lemmas.List.{length-take, take-map, take-take, take_all}
+use Rattle.dk_base.specs.Refusals.{fault_line}
 use Rattle.dk_base.specs.Reading.{LineFault}
 use Rattle.dk_base.specs.declared.why.Why.{Why}
 use Rattle.dk_io.specs.Outside.{HeldFile, Holds, Rose}
@@ -13,7 +14,6 @@ use Rattle.dk_arguments.specs.declared.request.Request.{Request}
 use Rattle.dk_arguments.specs.declared.request.Request.TheVariants.{Run, Help, Version}
 use Rattle.dk_driver.specs.Files.{AreHeldFiles, FaultAt, File, ended_file, file_name_at}
 use Rattle.dk_driver.specs.Reads.{AtStart, Break, HasBroken, Within, held_file_at}
-use Rattle.dk_program.specs.Messages.{fault_line}
 use Rattle.dk_program.specs.Moments.{IsCalm, Outside}
 use Rattle.dk_program.specs.Outputs.{Output, only_on, texts_followed_by}
 use Rattle.dk_run.specs.Commands.{file_names, helds_of}

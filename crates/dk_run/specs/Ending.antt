@@ -1,11 +1,12 @@
 -- How a run ends: what it writes last, and its status.
 use Rattle.std.specs.Prelude.{◌≡◌, ℕ}
+use Rattle.dk_base.specs.Refusals.{fault_line}
 use Rattle.dk_io.specs.Streams.{Texts}
 use Rattle.dk_io.specs.declared.outside.Stream.TheVariants.{Messages}
 use Rattle.dk_words.specs.declared.command.Command.{Command}
 use Rattle.dk_driver.specs.Files.{file_name_at}
 use Rattle.dk_program.specs.Ending.{EndsWith}
-use Rattle.dk_program.specs.Messages.{fault_line, unread_line}
+use Rattle.dk_program.specs.Messages.{unread_line}
 use Rattle.dk_run.specs.Commands.{file_names}
 use Rattle.dk_run.specs.declared.reading.FilesTrouble.{FilesTrouble}
 use Rattle.dk_run.specs.declared.reading.FilesTrouble.TheVariants as t

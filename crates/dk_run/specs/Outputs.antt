@@ -1,6 +1,7 @@
 -- The three texts of a run.
 use Rattle.std.specs.Prelude.{ℕ, List, [], ◌++◌, length, Result, Ok, Err, if◌then◌else◌}
 use Rattle.std.specs.Option.{option_map_or}
+use Rattle.dk_base.specs.Refusals.{fault_line}
 use Rattle.dk_blocks.specs.History.{History}
 use Rattle.dk_core.specs.Resuming.{state_file}
 use Rattle.dk_generate.specs.Texts.{generated_line}
@@ -8,7 +9,7 @@ use Rattle.dk_io.specs.declared.outside.Stream.TheVariants.{Messages}
 use Rattle.dk_words.specs.Texts.{usage_line}
 use Rattle.dk_words.specs.declared.command.Command.{Command}
 use Rattle.dk_driver.specs.Files.{FaultAt, File, file_name_at}
-use Rattle.dk_program.specs.Messages.{fault_line, unread_line}
+use Rattle.dk_program.specs.Messages.{unread_line}
 use Rattle.dk_program.specs.Outputs.{Output, only_on}
 use Rattle.dk_run.specs.Commands.{file_names}
 use Rattle.dk_run.specs.Courses.{Course, Outset, course_of}

@@ -1,7 +1,7 @@
-use Rattle.std.proofs.Common.{◌≡◌, ◌∙◌, ◌<◌, arith, length, refl, slice_get, slice_set, subst, sym, Some, Result, Ok}
+use Rattle.std.proofs.Common.{◌≡◌, ◌∙◌, ◌<◌, arith, length, refl, slice_get, slice_set, subst, sym, Some, Ok}
 use Rattle.std.proofs.lemmas.List.Elements.{All-set}
+use Rattle.std.proofs.lemmas.Result.{err_from_is_err_and}
 use Rattle.dk_base.specs.Values.{values_of}
-use Rattle.dk_base.specs.declared.faults.Fault.{Fault}
 use Rattle.dk_engine.specs.Levels.{Whole}
 use Rattle.dk_blocks.specs.Finding.{FoundFits, outcome_of}
 use Rattle.dk_blocks.specs.History.{Nothing, Samples}
@@ -12,7 +12,6 @@ use Rattle.dk_core.proofs.Taking.{base_fits, engine_derived, nothing_taken, samp
 use Rattle.dk_core.specs.Keeping.{Keeping}
 use Rattle.dk_core.specs.Taking.{EnginesWere, TakenAs}
 use Rattle.dk_core.proofs.kept.Kept.take.Goals as goal
-use Rattle.dk_core.proofs.kept.Kept.take.Goals.{in-Ok, in-Err}
 
 pub feed-requires-clause-derived : goal.feed-requires-clause-derived
 feed-requires-clause-derived c =
@@ -51,27 +50,27 @@ pub returns-in-Declaration-clause-gives : goal.returns-in-Declaration-clause-giv
 returns-in-Declaration-clause-gives c h now stands =
     subst (λ (f : Found). TakenAs c.args.self.now h (left_behind c.declare.new.self c.declare.result) (outcome_of now (Some f))) (sym c.in-Declaration.is) (c.declare.ensures.gives h now stands)
 
-pub returns-after-feed-clause-gives : goal.returns-after-feed-clause-gives
-returns-after-feed-clause-gives c h now stands =
+pub returns-in_ok-feed-in-Sample-clause-gives : goal.returns-in_ok-feed-in-Sample-clause-gives
+returns-in_ok-feed-in-Sample-clause-gives c h now stands =
     let k : Keeping = record { reader = c.self.inside.reader; grammar = c.self.inside.grammar; engines = c.self.inside.engines.items } in
     let p = c.in-Sample.point in
     let fits = subst (λ (f : Found). FoundFits (points_in k.reader) (Some f)) c.in-Sample.is (subst (λ (x : Keeping). FoundFits (points_in x.reader) (Some c.args.found)) (sym c.self.view_is) c.requires) in
     let there : p.0 < length k.engines = omega (arith, fits.0, c.self.invariant.engines.long) in
     let at : slice_get k.engines p.0 ≡ Some c.index_mut.result.now = got k.engines p.0 c.index_mut.result.now there c.index_mut.ensures.value in
     let holds : ReaderStandsFor k.reader now = subst (λ (x : Keeping). ReaderStandsFor x.reader now) (sym c.self.view_is) stands in
-    let P : Result Unit Fault → Type 0 = λ r. TakenAs c.args.self.now h (left_behind (record k { engines = slice_set k.engines p.0 c.feed.new.engine }) r) (outcome_of now (Some c.args.found)) in
-    elim c.match-feed.branch [
-      | in-Ok w ↦ subst P (sym w.result-is)
-          (subst (λ (f : Found). TakenAs c.args.self.now h (Ok (record k { engines = slice_set k.engines p.0 c.feed.new.engine })) (outcome_of now (Some f))) (sym c.in-Sample.is) (
-            now,
-            holds,
-            (
-              Samples p.0 _ (values_of c.in-Sample.values.now),
-              refl,
-              λ were adds grammar.
-                  let own : EnginesWere k h = subst (λ (x : Keeping). EnginesWere x h) (sym c.self.view_is) were in
-                  sample_taken k p.0 c.index_mut.result.now c.feed.new.engine (values_of c.in-Sample.values.now) h now own c.self.invariant.engines at there w.in-Ok.ensures.stands adds grammar holds,
-            ),
-          ))
-      | in-Err w ↦ subst P (sym w.result-is) tt
-    ]
+    subst (λ (f : Found). TakenAs c.args.self.now h (Ok (record k { engines = slice_set k.engines p.0 c.feed.new.engine })) (outcome_of now (Some f))) (sym c.in-Sample.is) (
+      now,
+      holds,
+      (
+        Samples p.0 _ (values_of c.in-Sample.values.now),
+        refl,
+        λ were adds grammar.
+            let own : EnginesWere k h = subst (λ (x : Keeping). EnginesWere x h) (sym c.self.view_is) were in
+            sample_taken k p.0 c.index_mut.result.now c.feed.new.engine (values_of c.in-Sample.values.now) h now own c.self.invariant.engines at there c.in_ok-feed-in-Sample.ensures.stands adds grammar holds,
+      ),
+    )
+
+pub returns-in_err-feed-in-Sample-clause-gives : goal.returns-in_err-feed-in-Sample-clause-gives
+returns-in_err-feed-in-Sample-clause-gives c h now stands =
+    let p = err_from_is_err_and c.from_residual.result c.from_residual.ensures.1 in
+    rw (p.1, p.2) tt

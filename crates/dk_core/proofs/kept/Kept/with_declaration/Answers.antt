@@ -20,16 +20,16 @@ with_new-requires c =
 pub invariant_of-result : goal.invariant_of-result
 invariant_of-result c =
     let k : Keeping = record { reader = c.self.inside.reader; grammar = c.self.inside.grammar; engines = c.self.inside.engines.items } in
-    let all : List Whole = c.in-Ok.engines.items in
-    let grown = subst (λ (ps : List Point). AreGrown ps k.grammar k.engines all) c.points.ensures.points c.in-Ok.ensures in
+    let all : List Whole = c.in_ok-engines.field-0.items in
+    let grown = subst (λ (ps : List Point). AreGrown ps k.grammar k.engines all) c.points.ensures.points c.in_ok-engines.ensures in
     let sound = engines_grown (points_in k.reader) (points_in c.in_ok-reader.reader) k.grammar k.engines all c.in_ok-reader.ensures.points c.self.invariant.engines c.self.invariant.grammar grown in
     record { engines = sound.0; grammar = sound.1 }
 
-pub returns-in-Ok-clause-gives : goal.returns-in-Ok-clause-gives
-returns-in-Ok-clause-gives c h now stands =
+pub returns-clause-gives : goal.returns-clause-gives
+returns-clause-gives c h now stands =
     let k : Keeping = record { reader = c.self.inside.reader; grammar = c.self.inside.grammar; engines = c.self.inside.engines.items } in
-    let all : List Whole = c.in-Ok.engines.items in
-    let grown = subst (λ (ps : List Point). AreGrown ps k.grammar k.engines all) c.points.ensures.points c.in-Ok.ensures in
+    let all : List Whole = c.in_ok-engines.field-0.items in
+    let grown = subst (λ (ps : List Point). AreGrown ps k.grammar k.engines all) c.points.ensures.points c.in_ok-engines.ensures in
     subst (λ (x : Keeping). TakenAs x h (Ok (record { reader = c.in_ok-reader.reader; grammar = k.grammar; engines = all })) (with_declaration now c.args.line c.args.decl)) c.self.view_is
     (declared_taken k c.in_ok-reader.reader _ all h (with_declaration now c.args.line c.args.decl) grown
     (c.in_ok-reader.ensures.gives now (subst (λ (x : Keeping). ReaderStandsFor x.reader now) (sym c.self.view_is) stands)))

@@ -18,11 +18,11 @@ take-requires-clause-behind g c =
       subst (λ (ps : List Point). PointsGoOn (points_of c.args.self.now.events) (Some c.in-Some.event) ps) (sym c.points.ensures.points) goes,
     )
 
-pub returns-in-Ok-clause-gives : goal.returns-in-Ok-clause-gives
-returns-in-Ok-clause-gives g c h records stands =
+pub returns-in-Some-clause-gives : goal.returns-in-Some-clause-gives
+returns-in-Some-clause-gives g c h records stands =
     let is : c.next.result ≡ Ok (Some c.in-Some.event) = search rules in
     taken_on g.C.Consumer.stands c.args.place c.args.self.now (record c.args.self.now { events = c.next.new.self; consumer = c.take.new.self }) c.next.new.self h records c.args.lines.now c.next.new.lines _ _ c.in-Some.event refl
-    (λ old all points stand tells. c.in-Ok.ensures.stands old all (points ∙ sym c.points.ensures.points) stand tells)
+    (λ old all points stand tells. c.in_ok-take-in-Some.ensures.stands old all (points ∙ sym c.points.ensures.points) stand tells)
     stands
     (subst (λ (r : Result (Option Event) Fault). IfSome (left_of c.args.lines.now (g.I.Inputs.rest c.args.inputs.now)) (λ xs. NextEvent c.args.self.now.events h c.args.lines.now xs (left_with_answer c.next.new.self r) c.next.new.lines (left_of c.next.new.lines (g.I.Inputs.rest c.next.new.inputs)))) is
     (c.next.ensures.gives h stands.events))

@@ -27,12 +27,12 @@ returns-in_ok-declare-in-Declaration-clause-gives c h stands =
     (declaration_taken c.declare.new.self c.in_ok-declare-in-Declaration.field-0 c.event_of.result comes c.event_of.ensures.event
     (subst (λ (r : Result Declared Fault). DeclareGives (reader_left (left_with_answer c.declare.new.self r)) comes) is (c.declare.ensures.gives h stands)))
 
-pub returns-in-Ok-clause-gives : goal.returns-in-Ok-clause-gives
-returns-in-Ok-clause-gives c h stands =
-    subst (λ (f : Found). TakenAs (Ok (c.args.self.now, c.in-Ok.event)) (outcome_of h (Some f))) (sym c.in-Sample.is)
-    (sample_taken c.args.self.now h c.in-Sample.point c.in-Sample.line c.in-Sample.values c.vars.result.now c.in-Ok.event stands c.vars.ensures c.in-Ok.ensures.event)
+pub returns-in_ok-sample-in-Sample-clause-gives : goal.returns-in_ok-sample-in-Sample-clause-gives
+returns-in_ok-sample-in-Sample-clause-gives c h stands =
+    subst (λ (f : Found). TakenAs (Ok (c.args.self.now, c.in_ok-sample-in-Sample.field-0)) (outcome_of h (Some f))) (sym c.in-Sample.is)
+    (sample_taken c.args.self.now h c.in-Sample.point c.in-Sample.line c.in-Sample.values c.vars.result.now c.in_ok-sample-in-Sample.field-0 stands c.vars.ensures c.in_ok-sample-in-Sample.ensures.event)
 
-pub returns-in-Ok-clause-fits : goal.returns-in-Ok-clause-fits
-returns-in-Ok-clause-fits c =
+pub returns-in_ok-sample-in-Sample-clause-fits : goal.returns-in_ok-sample-in-Sample-clause-fits
+returns-in_ok-sample-in-Sample-clause-fits c =
     let fits = subst (λ (f : Found). FoundFits (points_of c.args.self.now) (Some f)) c.in-Sample.is c.requires in
-    c.in-Ok.ensures.fits (points_of c.args.self.now) fits.0 c.vars.ensures fits.1
+    c.in_ok-sample-in-Sample.ensures.fits (points_of c.args.self.now) fits.0 c.vars.ensures fits.1

@@ -18,10 +18,10 @@ complete-requires-clause-first c =
     (first_still (points_in c.self.inside.reader) (points_in c.in_ok-reader.reader) c.self.inside.vars.items c.in_ok-reader.ensures.points c.self.invariant)
 
 pub invariant_of-result : goal.invariant_of-result
-invariant_of-result c = subst (λ (ps : List Point). AreVarsOf ps c.in-Ok.vars.items) c.points.ensures.points c.in-Ok.ensures
+invariant_of-result c = subst (λ (ps : List Point). AreVarsOf ps c.in_ok-vars.field-0.items) c.points.ensures.points c.in_ok-vars.ensures
 
-pub returns-in-Ok-clause-gives : goal.returns-in-Ok-clause-gives
-returns-in-Ok-clause-gives c h stands = c.in_ok-reader.ensures.gives h (subst (λ (f : Following). EventsStandFor f h) (sym c.self.view_is) stands)
+pub returns-clause-gives : goal.returns-clause-gives
+returns-clause-gives c h stands = c.in_ok-reader.ensures.gives h (subst (λ (f : Following). EventsStandFor f h) (sym c.self.view_is) stands)
 
 pub returns-in_err-reader-clause-gives : goal.returns-in_err-reader-clause-gives
 returns-in_err-reader-clause-gives c h stands =
