@@ -42,7 +42,7 @@ stats_line name counts =
     codes "stats " ++ name ++ codes ": samples " ++ decimal counts.samples
     ++ kept_text counts.leaders counts.constants counts.patterns counts.slots
 
--- ---- reports by the way
+-- ---- interim reports
 abbrev pub after_blocks_line : ℕ → List ℕ
 after_blocks_line blocks = codes "--- after " ++ decimal blocks ++ codes " blocks\n"
 
