@@ -239,16 +239,12 @@ impl Kept {
         ensures goes_on { (ignores : Bool) (h : History) → BlockGoesOn ignores h (left_behind block.new result) (λ ls close. after_declaration (record h { header = block.old.header }) (record { number = number; bytes = bytes.now }) ls close) }
         ensures fits { OnOk result (Fits self.now block.new) }
     {
-        match DeclBlock::begin(self.alloc, number, bytes, block.header.implicit()) {
-            Ok(reader) => {
-                block.state = State::Declaration {
-                    line: number,
-                    reader,
-                };
-                Ok(())
-            }
-            Err(fault) => Err(fault),
-        }
+        let reader = DeclBlock::begin(self.alloc, number, bytes, block.header.implicit())?;
+        block.state = State::Declaration {
+            line: number,
+            reader,
+        };
+        Ok(())
     }
 
     // The first line of a sample record.
@@ -261,13 +257,9 @@ impl Kept {
         ensures goes_on { (ignores : Bool) (h : History) → Stands self.now h → BlockGoesOn ignores h (left_behind block.new result) (λ ls close. after_sample ignores (record h { header = block.old.header }) (record { number = number; bytes = bytes.now }) ls close) }
         ensures fits { OnOk result (Fits self.now block.new) }
     {
-        match RecordReader::begin(self.alloc, &self.points, block.arena, number, bytes) {
-            Ok(reader) => {
-                block.state = State::Record { reader };
-                Ok(())
-            }
-            Err(fault) => Err(fault),
-        }
+        let reader = RecordReader::begin(self.alloc, &self.points, block.arena, number, bytes)?;
+        block.state = State::Record { reader };
+        Ok(())
     }
 
     // One more line of a declaration.
@@ -284,13 +276,11 @@ impl Kept {
         ensures fits { OnOk result (Fits self.now block.new) }
     {
         match replace(&mut block.state, State::Implementors) {
-            State::Declaration { line, reader } => match reader.line(number, bytes) {
-                Ok(reader) => {
-                    block.state = State::Declaration { line, reader };
-                    Ok(())
-                }
-                Err(fault) => Err(fault),
-            },
+            State::Declaration { line, reader } => {
+                let reader = reader.line(number, bytes)?;
+                block.state = State::Declaration { line, reader };
+                Ok(())
+            }
             _ => Ok(()),
         }
     }
@@ -311,10 +301,10 @@ impl Kept {
     {
         self.header = block.header;
         match &mut block.state {
-            State::Record { reader } => match reader.end(&self.points, number) {
-                Ok(sample) => self.with_record(block.arena, &sample, ignores),
-                Err(fault) => Err(fault),
-            },
+            State::Record { reader } => {
+                let sample = reader.end(&self.points, number)?;
+                self.with_record(block.arena, &sample, ignores)
+            }
             State::Front { last } => {
                 let last = *last;
                 self.without_record(last)
@@ -348,10 +338,10 @@ impl Kept {
         ensures fits { IfOk result (λ found. FoundFits self.now.points found) }
     {
         match replace(&mut block.state, State::Implementors) {
-            State::Declaration { line, reader } => match reader.end() {
-                Ok(decl) => Ok(Some(Found::Declaration { line, decl })),
-                Err(fault) => Err(fault),
-            },
+            State::Declaration { line, reader } => {
+                let decl = reader.end()?;
+                Ok(Some(Found::Declaration { line, decl }))
+            }
             _ => Ok(Some(Found::Nothing)),
         }
     }
@@ -398,19 +388,15 @@ impl Kept {
             calls,
             last,
         } = self;
-        match points.declare(decl, line) {
-            Ok((points, declared)) => Ok((
-                Kept {
-                    alloc,
-                    points,
-                    header,
-                    calls,
-                    last,
-                },
-                declared,
-            )),
-            Err(fault) => Err(fault),
-        }
+        let (points, declared) = points.declare(decl, line)?;
+        let kept = Kept {
+            alloc,
+            points,
+            header,
+            calls,
+            last,
+        };
+        Ok((kept, declared))
     }
 
     /// Without what ends with a file: no entry waits any more.

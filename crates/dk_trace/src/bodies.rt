@@ -81,20 +81,14 @@ impl<'a> BodyReader<'a> {
         ensures { ReaderGoesOn (λ _. body_resumed vars.now self.new) result (λ ls. body_resumed vars.now self.old (record { number = line; bytes = bytes.now } ∷ ls)) }
     {
         match self {
-            BodyReader::AtStart => match BodyReader::first_line(arena, vars, line, bytes) {
-                Ok(next) => {
-                    *self = next;
-                    Ok(())
-                }
-                Err(fault) => Err(fault),
-            },
-            BodyReader::AtNonce => match BodyReader::nonce_line(arena, line, bytes) {
-                Ok(next) => {
-                    *self = next;
-                    Ok(())
-                }
-                Err(fault) => Err(fault),
-            },
+            BodyReader::AtStart => {
+                *self = BodyReader::first_line(arena, vars, line, bytes)?;
+                Ok(())
+            }
+            BodyReader::AtNonce => {
+                *self = BodyReader::nonce_line(arena, line, bytes)?;
+                Ok(())
+            }
             BodyReader::AtValues(_, values) => values.line(vars, line, bytes),
         }
     }

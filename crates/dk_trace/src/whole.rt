@@ -133,10 +133,10 @@ fn read_text<'a, 'b>(
     }
     match cut_line(bytes) {
         None => Ok(None),
-        Some((text, rest)) => match Unmarked::read(arena, kind, 0, text) {
-            Ok(unmarked) => Ok(Some((unmarked, rest))),
-            Err(fault) => Err(fault),
-        },
+        Some((text, rest)) => {
+            let unmarked = Unmarked::read(arena, kind, 0, text)?;
+            Ok(Some((unmarked, rest)))
+        }
     }
 }
 

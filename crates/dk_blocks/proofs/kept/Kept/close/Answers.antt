@@ -1,4 +1,5 @@
 use Rattle.std.proofs.Common.{◌≡◌, ◌∙◌, [], ap, refl, subst, sym, List, Some, Result, Err}
+use Rattle.std.proofs.lemmas.Result.{err_from_is_err_and}
 use Rattle.dk_base.specs.Reading.{LineFault, ◌>>=◌}
 use Rattle.dk_decl.specs.Outcomes.{FaultAgrees}
 use Rattle.dk_points.specs.Table.{Point}
@@ -24,7 +25,7 @@ unfolding Fits
 with_record-requires-clause-fits c =
     let points : c.self.inside.points ≡ c.args.self.now.points = ap (λ (k : Keeping). k.points) c.self.view_is in
     let fits = subst (λ (s : State). StateFits c.args.self.now.points s) c.in-Record.is c.requires in
-    subst (λ (ps : List Point). ReadsFitting ps c.in-Record.reader) (sym points) fits.1 [] c.args.number (shown c.in-Ok.sample) c.in-Ok.ensures.sample
+    subst (λ (ps : List Point). ReadsFitting ps c.in-Record.reader) (sym points) fits.1 [] c.args.number (shown c.in_ok-sample-in-Record.sample) c.in_ok-sample-in-Record.ensures.sample
 
 pub declaration_end-requires-clause-fits : goal.declaration_end-requires-clause-fits
 unfolding Fits
@@ -56,23 +57,24 @@ returns-in-Implementors-clause-closes c h stands =
     let held = with_header c.args.self.now _ h c.args.block.now.header stands points refl (ap (λ (k : Keeping). k.calls) c.self.view_is) in
     (now, held, ap (λ (s : State). resumed_by c.args.ignores now s [] (Some c.args.number)) c.in-Implementors.is)
 
-pub returns-in-Ok-clause-closes : goal.returns-in-Ok-clause-closes
+pub returns-in_ok-sample-in-Record-clause-closes : goal.returns-in_ok-sample-in-Record-clause-closes
 unfolding block_resumed Stands
-returns-in-Ok-clause-closes c h stands =
+returns-in_ok-sample-in-Record-clause-closes c h stands =
     let now : History = record h { header = c.args.block.now.header } in
     let points : c.self.inside.points ≡ c.args.self.now.points = ap (λ (k : Keeping). k.points) c.self.view_is in
     let held = with_header c.args.self.now _ h c.args.block.now.header stands points refl (ap (λ (k : Keeping). k.calls) c.self.view_is) in
     subst (λ (r : Result Taken LineFault). Closes (left_with_answer c.with_record.new.self c.with_record.result) r)
     (sym (ap (λ (s : State). resumed_by c.args.ignores now s [] (Some c.args.number)) c.in-Record.is
     ∙ ap (λ (r : Result Sample LineFault). r >>= λ s. with_record c.args.ignores now s)
-    (ap (λ (ps : List Point). record_resumed ps c.in-Record.reader [] (Some c.args.number)) (sym (points ∙ stands.table)) ∙ c.in-Ok.ensures.sample)))
+    (ap (λ (ps : List Point). record_resumed ps c.in-Record.reader [] (Some c.args.number)) (sym (points ∙ stands.table)) ∙ c.in_ok-sample-in-Record.ensures.sample)))
     (c.with_record.ensures.closes now held)
 
-pub returns-in-Err-clause-closes : goal.returns-in-Err-clause-closes
+pub returns-in_err-sample-in-Record-clause-closes : goal.returns-in_err-sample-in-Record-clause-closes
 unfolding block_resumed Stands
-returns-in-Err-clause-closes c h stands =
+returns-in_err-sample-in-Record-clause-closes c h stands =
     let now : History = record h { header = c.args.block.now.header } in
     let points : c.self.inside.points ≡ c.args.self.now.points = ap (λ (k : Keeping). k.points) c.self.view_is in
-    subst (λ (s : State). Closes (Err c.in-Err.fault) (resumed_by c.args.ignores now s [] (Some c.args.number))) (sym c.in-Record.is)
-    (told_closes c.in-Err.fault _ (told_at c.in-Err.fault (record_resumed now.table c.in-Record.reader [] (Some c.args.number)) (λ s. with_record c.args.ignores now s)
-    (subst (λ (ps : List Point). FaultAgrees c.in-Err.fault (record_resumed ps c.in-Record.reader [] (Some c.args.number))) (points ∙ stands.table) c.in-Err.ensures.sample)))
+    let p = err_from_is_err_and c.from_residual.result c.from_residual.ensures.1 in
+    rw (p.1, p.2) (subst (λ (s : State). Closes (Err c.in_err-sample-in-Record.field-0.0) (resumed_by c.args.ignores now s [] (Some c.args.number))) (sym c.in-Record.is)
+    (told_closes c.in_err-sample-in-Record.field-0.0 _ (told_at c.in_err-sample-in-Record.field-0.0 (record_resumed now.table c.in-Record.reader [] (Some c.args.number)) (λ s. with_record c.args.ignores now s)
+    (subst (λ (ps : List Point). FaultAgrees c.in_err-sample-in-Record.field-0.0 (record_resumed ps c.in-Record.reader [] (Some c.args.number))) (points ∙ stands.table) c.in_err-sample-in-Record.ensures.sample))))

@@ -1,4 +1,5 @@
 use Rattle.std.proofs.Common.{◌≡◌, ◌∙◌, [], ap, subst, sym, rules, Some, Result, Err, Ok}
+use Rattle.std.proofs.lemmas.Result.{err_from_is_err_and}
 use Rattle.dk_base.specs.Reading.{LineFault, ◌>>=◌}
 use Rattle.dk_decl.specs.Blocks.{decl_resumed}
 use Rattle.dk_decl.specs.declared.decls.PointDecl.{PointDecl}
@@ -9,23 +10,24 @@ use Rattle.dk_blocks.specs.declared.block.State.TheVariants as state
 use Rattle.dk_blocks.proofs.Fronting.{told_at, told_closes}
 use Rattle.dk_blocks.proofs.kept.Kept.declaration_end.Goals as goal
 
-pub returns-in-Ok-clause-fits : goal.returns-in-Ok-clause-fits
+pub returns-in_ok-decl-in-Declaration-clause-fits : goal.returns-in_ok-decl-in-Declaration-clause-fits
 unfolding Fits
-returns-in-Ok-clause-fits c =
+returns-in_ok-decl-in-Declaration-clause-fits c =
     let is : c.args.block.now.state ≡ state.Declaration c.in-Declaration.line c.in-Declaration.reader = search rules in
-    subst (λ (s : State). StateFits c.args.self.now.points s) is c.requires.fits [] 0 c.in-Ok.decl (c.in-Ok.ensures 0)
+    subst (λ (s : State). StateFits c.args.self.now.points s) is c.requires.fits [] 0 c.in_ok-decl-in-Declaration.decl (c.in_ok-decl-in-Declaration.ensures 0)
 
-pub returns-in-Ok-clause-closes : goal.returns-in-Ok-clause-closes
-returns-in-Ok-clause-closes c ignores h stands close =
+pub returns-in_ok-decl-in-Declaration-clause-closes : goal.returns-in_ok-decl-in-Declaration-clause-closes
+returns-in_ok-decl-in-Declaration-clause-closes c ignores h stands close =
     let is : c.args.block.now.state ≡ state.Declaration c.in-Declaration.line c.in-Declaration.reader = search rules in (
       h,
       stands,
       ap (λ (s : State). resumed_by ignores h s [] (Some close)) is
-          ∙ ap (λ (r : Result PointDecl LineFault). r >>= λ d. with_declaration h c.in-Declaration.line d) (c.in-Ok.ensures close),
+          ∙ ap (λ (r : Result PointDecl LineFault). r >>= λ d. with_declaration h c.in-Declaration.line d) (c.in_ok-decl-in-Declaration.ensures close),
     )
 
-pub returns-in-Declaration-clause-closes : goal.returns-in-Declaration-clause-closes
-returns-in-Declaration-clause-closes c ignores h stands close =
+pub returns-in_err-decl-in-Declaration-clause-closes : goal.returns-in_err-decl-in-Declaration-clause-closes
+returns-in_err-decl-in-Declaration-clause-closes c ignores h stands close =
     let is : c.args.block.now.state ≡ state.Declaration c.in-Declaration.line c.in-Declaration.reader = search rules in
-    subst (λ (s : State). Closes (Err c.in-Err.fault) (resumed_by ignores h s [] (Some close))) (sym is)
-    (told_closes c.in-Err.fault _ (told_at c.in-Err.fault (decl_resumed c.in-Declaration.reader [] (Some close)) (λ d. with_declaration h c.in-Declaration.line d) (c.in-Err.ensures close)))
+    let p = err_from_is_err_and c.from_residual.result c.from_residual.ensures.1 in
+    rw (p.1, p.2) (subst (λ (s : State). Closes (Err c.in_err-decl-in-Declaration.field-0.0) (resumed_by ignores h s [] (Some close))) (sym is)
+    (told_closes c.in_err-decl-in-Declaration.field-0.0 _ (told_at c.in_err-decl-in-Declaration.field-0.0 (decl_resumed c.in-Declaration.reader [] (Some close)) (λ d. with_declaration h c.in-Declaration.line d) (c.in_err-decl-in-Declaration.ensures close))))
