@@ -14,6 +14,7 @@ ghost use Rattle.dk_driver.specs.WholeFile.{FileGives, StartedGives};
 
 use crate::fault::FileFault;
 use crate::{Consumer, Feed, FilesFault, Traces};
+use bumpalo::Bump;
 use dk_arguments::Word;
 use dk_io::{Failed, Inputs};
 use dk_lines::Lines;
@@ -42,8 +43,9 @@ fn read_started<C: Consumer, I: Inputs>(
     ensures cause { IsErrOf result FileFault.Read → Rose (I.faults inputs.old) (I.faults inputs.new) }
 {
     let mut feed = feed;
+    let mut arena = Bump::new(feed.alloc);
     'steps: loop {
-        match feed.next(place, inputs, lines) {
+        match feed.next(place, &mut arena, inputs, lines) {
             Ok(true) => continue 'steps,
             Ok(false) => return Ok(feed.end_file()),
             Err(fault) => return Err(FileFault::from(fault)),
