@@ -1,5 +1,6 @@
 -- Records that stand whole at the front of some bytes.
 use Rattle.std.specs.Prelude.{◌≡◌, ◌≤◌, ◌<◌, ◌+◌, ◌++◌, ℕ, ℤ, All, List, [], ◌∷◌, drop, length, take, Option, Some, Ok}
+use Rattle.dk_base.specs.Numbers.{integer_of}
 use Rattle.dk_base.specs.Reading.{Line, Reads}
 use Rattle.dk_base.specs.Values.{value_of_text}
 use Rattle.dk_base.specs.Words.{trim_blanks}
@@ -42,6 +43,13 @@ pub record NumberStands (bytes : List ℕ) (number : ℤ) (rest : List ℕ) : Ty
   pub text : List ℕ
   pub cut : IsCut bytes text rest
   pub says : value_of_text kind.Int text ≡ Some (value.Int number)
+  pub is : integer_of text ≡ Some number
+
+-- the first line writes a nonce
+pub record NonceStands (bytes : List ℕ) (nonce : ℤ) (rest : List ℕ) : Type 0 where
+  pub text : List ℕ
+  pub cut : IsCut bytes text rest
+  pub is : integer_of text ≡ Some nonce
 
 -- the first line is the text of a value of the kind, and this is what it says
 pub record TextStands (k : Option Kind) (bytes : List ℕ) (unmarked : Unmarked) (rest : List ℕ) : Type 0 where

@@ -4,16 +4,15 @@ ghost use Rattle.dk_base.specs.Values.{values_of as shown_by};
 ghost use Rattle.dk_lines.specs.Passing.{HasNoLf};
 ghost use Rattle.dk_points.specs.Bare.{have_bare_names, is_bare_name};
 ghost use Rattle.dk_trace.specs.Answers.{shown_value};
-ghost use Rattle.dk_trace.specs.Whole.{BodyStands, IsCut, IsPushed, IsTidy, MarkStands, NumberStands, StandsWhole, TextStands, ValuesStand, VariableStands};
+ghost use Rattle.dk_trace.specs.Whole.{BodyStands, IsCut, IsPushed, IsTidy, MarkStands, NonceStands, NumberStands, StandsWhole, TextStands, ValuesStand, VariableStands};
 
 use crate::marks::Unmarked;
 use crate::reader::{point_named_by, var_decls_at};
+use crate::recent::Recent;
 use crate::sample::BaseSample;
 use crate::values::{push_constant, push_shown};
 use bumpalo::collections::into_bump_slice;
-use dk_base::{
-    Arena, BlockFault, Kind, NoMemory, PointId, View, parse_integer, same_bytes, short_number,
-};
+use dk_base::{Arena, BlockFault, Kind, NoMemory, View, parse_integer, same_bytes, short_number};
 use dk_decl::VarDecl;
 use dk_points::Points;
 use memchr::memchr;
@@ -214,6 +213,22 @@ fn read_variable<'a, 'b>(
     Ok(Some(rest))
 }
 
+// The nonce in the first line, if the line is read as it stands; and what follows its LF.
+fn read_nonce(bytes: &[u8]) -> Option<(i64, &[u8])>
+    ensures { IfSome result (λ r. NonceStands bytes.now r.0 r.1.now) }
+{
+    if let Some(read) = number_line(bytes) {
+        return Some(read);
+    }
+    let Some((text, rest)) = cut_line(bytes) else {
+        return None;
+    };
+    match parse_integer(text) {
+        Some(nonce) => Some((nonce, rest)),
+        None => None,
+    }
+}
+
 // The values of a record, if the bytes begin with their lines and an empty one; what follows these, and how many lines the values have.
 fn read_values<'a, 'b>(
     arena: &'a Arena,
@@ -267,10 +282,7 @@ fn read_body<'a, 'b>(
             Err(fault) => Err(fault),
         };
     };
-    let Some((text, behind)) = cut_line(number) else {
-        return Ok(None);
-    };
-    let Some(nonce) = parse_integer(text) else {
+    let Some((nonce, behind)) = read_nonce(number) else {
         return Ok(None);
     };
     match read_values(arena, vars, behind) {
@@ -287,11 +299,11 @@ fn read_body<'a, 'b>(
 
 /// The record that stands whole at the front of the bytes, the first line of which has this number, with the empty line behind it. Where
 /// none is given, one may stand there all the same; only its lines tell then. A record is given only where each of its lines is read as it
-/// stands, and its variables have bare names. The point `last` is tried first, as that of the record before.
+/// stands, and its variables have bare names. The points of the records before are tried first.
 pub fn read_whole<'a>(
     alloc: Global,
     points: &Points,
-    last: PointId,
+    recent: Recent,
     arena: &'a Arena,
     line: u64,
     bytes: &[u8],
@@ -301,7 +313,7 @@ pub fn read_whole<'a>(
     let Some((first, rest)) = cut_line(bytes) else {
         return Ok(None);
     };
-    let point = match point_named_by(alloc, points, last, line, first) {
+    let point = match point_named_by(alloc, points, recent.likely(points, first), line, first) {
         Ok(point) => point,
         Err(BlockFault::NoMemory) => return Err(NoMemory),
         Err(BlockFault::Refused { .. }) => return Ok(None),

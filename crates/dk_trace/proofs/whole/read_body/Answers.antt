@@ -17,15 +17,15 @@ overflow_add-result c =
     omega (
       arith,
       number,
-      cut_within c.in-Some.number.now c.in-Some-cut_line.text.now c.in-Some-cut_line.behind.now c.in-Some-cut_line.ensures,
-      values_within c.args.vars.now c.in-Some-cut_line.behind.now c.in-Ok-Some-read_values.rest.now (shown_by c.in-Ok-Some-read_values.values.now) c.in-Ok-Some-read_values.count stands,
+      cut_within c.in-Some.number.now c.in-Some-read_nonce.ensures.text c.in-Some-read_nonce.behind.now c.in-Some-read_nonce.ensures.cut,
+      values_within c.args.vars.now c.in-Some-read_nonce.behind.now c.in-Ok-Some-read_values.rest.now (shown_by c.in-Ok-Some-read_values.values.now) c.in-Ok-Some-read_values.count stands,
     )
 
 pub returns-in-Ok-Some-read_values : goal.returns-in-Ok-Some-read_values
 returns-in-Ok-Some-read_values c =
-    let fits : SFits w64 c.in-Some-parse_integer.nonce = search rules in
+    let fits : SFits w64 c.in-Some-read_nonce.nonce = search rules in
     subst (λ (z : ℤ). BodyStands c.args.vars.now c.args.bytes.now (Some z) (shown_by c.in-Ok-Some-read_values.values.now) c.in-Ok-Some-read_values.rest.now (c.in-Ok-Some-read_values.count + 2))
-    (sym (to_z-of_z w64 c.in-Some-parse_integer.nonce fits))
-    (body_nonce c.args.vars.now c.args.bytes.now c.in-Some.number.now c.in-Some-cut_line.behind.now c.in-Ok-Some-read_values.rest.now c.in-Some-cut_line.text.now c.in-Some-parse_integer.nonce
-    (shown_by c.in-Ok-Some-read_values.values.now) c.in-Ok-Some-read_values.count (c.in-Ok-Some-read_values.count + 2) c.in-Some.ensures c.in-Some-cut_line.ensures (search rules) refl
+    (sym (to_z-of_z w64 c.in-Some-read_nonce.nonce fits))
+    (body_nonce c.args.vars.now c.args.bytes.now c.in-Some.number.now c.in-Some-read_nonce.behind.now c.in-Ok-Some-read_values.rest.now c.in-Some-read_nonce.ensures.text c.in-Some-read_nonce.nonce
+    (shown_by c.in-Ok-Some-read_values.values.now) c.in-Ok-Some-read_values.count (c.in-Ok-Some-read_values.count + 2) c.in-Some.ensures c.in-Some-read_nonce.ensures.cut c.in-Some-read_nonce.ensures.is refl
     (rw c.in-Ok-Some-read_values.field-0-is at c.in-Ok-Some-read_values.ensures))
