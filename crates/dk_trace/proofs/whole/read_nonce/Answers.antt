@@ -1,4 +1,4 @@
-use Rattle.std.proofs.Common.{◌≡◌, ℤ, sym, subst, w64, SFits, rules}
+use Rattle.std.proofs.Common.{ℤ, sym, subst, w64, SFits, rules}
 use Rattle.std.proofs.lemmas.Int.{to_z-of_z}
 use Rattle.dk_trace.specs.Whole.{NonceStands}
 use Rattle.dk_trace.proofs.whole.read_nonce.Goals as goal
