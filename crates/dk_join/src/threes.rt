@@ -7,7 +7,7 @@ ghost use Rattle.dk_engine.specs.Exact.{SlotBefore};
 ghost use Rattle.dk_engine.specs.Parts.{is_slot_of, slot_at};
 ghost use Rattle.dk_engine.specs.Reading.{state_read};
 ghost use Rattle.dk_join.specs.Numbers.{number_of};
-ghost use Rattle.dk_rows.specs.Meanings.{state_of};
+ghost use Rattle.dk_meanings.specs.Meanings.{state_of};
 ghost use Rattle.dk_template.specs.Admitted.{admits};
 ghost use Rattle.dk_template.specs.Premises.{MayWantMemory};
 ghost use Rattle.dk_template.specs.Proper.{IsProper};
