@@ -3,8 +3,8 @@ ghost use Rattle.std.specs.Prelude.{◌≡◌, ◌↔◌, ◌⊎◌, ◌<◌, �
 ghost use Rattle.std.specs.List.{list_all};
 ghost use Rattle.dk_base.specs.declared.kinds.VarId.{VarId};
 ghost use Rattle.dk_engine.specs.Ordering.{precedes as is_before};
-ghost use Rattle.dk_fits.specs.Instances.{Precedes, are_distinct, is_asked};
 ghost use Rattle.dk_forms.specs.declared.states.State.{State};
+ghost use Rattle.dk_instances.specs.Instances.{Precedes, are_distinct, is_asked};
 ghost use Rattle.dk_print.specs.Texts.{instance_text};
 ghost use Rattle.dk_template.specs.Fitting.{fits};
 ghost use Rattle.dk_template.specs.Proper.{IsProper};

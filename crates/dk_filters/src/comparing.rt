@@ -2,7 +2,7 @@
 ghost use Rattle.std.specs.Prelude.{◌≡◌, ◌==◌, not};
 ghost use Rattle.std.specs.List.{list_all, list_any};
 ghost use Rattle.dk_base.specs.Comparability.{comparable};
-ghost use Rattle.dk_fits.specs.Instances.{are_distinct as all_distinct};
+ghost use Rattle.dk_instances.specs.Instances.{are_distinct as all_distinct};
 ghost use Rattle.dk_filters.specs.Facts.{are_comparable, compar_of_var, has_foreign_index, index_compar_of_var, is_incomparable, sequence_and_index};
 
 use dk_base::{Compar, Form, VarId, VarInfo, comparable};

@@ -1,7 +1,7 @@
 // What is asked about an instance.
 ghost use Rattle.std.specs.Prelude.{◌≡◌, ◌≤◌, ◌==◌, ◌++◌, IfOk, length, not};
 ghost use Rattle.std.specs.List.{list_all};
-ghost use Rattle.dk_fits.specs.Instances.{are_distinct, is_asked};
+ghost use Rattle.dk_instances.specs.Instances.{are_distinct, is_asked};
 ghost use Rattle.dk_report.specs.Asked.{CanBeAsked, listed_candidates_by};
 ghost use Rattle.dk_template.specs.Templates.{IsRow, IsRowOf};
 
