@@ -23,7 +23,7 @@ use Rattle.dk_blocks.specs.Steps.{FaultAnswers, Steps, groups_left}
 use Rattle.dk_core.specs.Steps.{NextBlock, SessionCounts}
 use Rattle.dk_core.specs.declared.session.Session.{Session}
 use Rattle.dk_report.specs.declared.options.Options.{Options}
-use Rattle.dk_words.specs.declared.command.Command.{Command}
+use Rattle.dk_command_line.specs.declared.command.Command.{Command}
 use Rattle.dk_run.specs.Courses.{Course, behind_histories, course_end, goes_on}
 use Rattle.dk_print.specs.Sections.{after_blocks_line}
 use Rattle.dk_presence.specs.Patterns.{capped}

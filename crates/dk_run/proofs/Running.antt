@@ -13,7 +13,7 @@ use Rattle.dk_blocks.specs.History.{History, file_ended}
 use Rattle.dk_core.specs.Standing.{SessionReadsFor, SessionStandsFor, blocks_of}
 use Rattle.dk_blocks.specs.Steps.{groups_left}
 use Rattle.dk_core.specs.declared.session.Session.{Session}
-use Rattle.dk_words.specs.declared.command.Command.{Command}
+use Rattle.dk_command_line.specs.declared.command.Command.{Command}
 use Rattle.dk_driver.specs.Files.{AreHeldFiles, FaultAt, File, ended_file}
 use Rattle.dk_driver.specs.Reads.{AtStart, Within, held_file_at, rest_behind}
 use Rattle.dk_run.specs.AllFiles.{AreReadTo, IsRefusedAt, IsShortTo, IsUnreadAt, RunsOn}

@@ -10,7 +10,7 @@ use Rattle.dk_core.specs.Standing.{SessionReadsFor, SessionStandsFor, blocks_of,
 use Rattle.dk_blocks.specs.LastLines.{LeavesBlank, ends_in_blank_line}
 use Rattle.dk_blocks.specs.Steps.{groups_left}
 use Rattle.dk_core.specs.declared.session.Session.{Session}
-use Rattle.dk_words.specs.declared.command.Command.{Command}
+use Rattle.dk_command_line.specs.declared.command.Command.{Command}
 use Rattle.dk_run.specs.Courses.{Course, behind_histories, course_of_groups}
 use Rattle.dk_presence.specs.Patterns.{capped}
 use Rattle.dk_run.specs.Reports.{due_from}
