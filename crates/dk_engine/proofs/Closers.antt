@@ -4,7 +4,7 @@ use Rattle.std.specs.List.{list_any}
 use Rattle.std.proofs.Common.{ap, ◌∙◌, inl, inr, subst, sym}
 use Rattle.std.proofs.lemmas.Bool.{cases_eq, ne_eqb}
 use Rattle.dk_suppress.specs.Rules.{Rule, rules}
-use Rattle.dk_engine.specs.Step.{asks_elements}
+use Rattle.dk_engine.specs.Feeding.Step.{asks_elements}
 
 abbrev conclusion : Rule → ℕ
 conclusion r = r.0.0

@@ -6,8 +6,8 @@ use Rattle.dk_base.specs.declared.kinds.VarId.{VarId}
 use Rattle.dk_forms.specs.declared.states.State.TheVariants as state
 use Rattle.dk_template.specs.Exchange.{turned_state, written_order}
 use Rattle.dk_template.specs.declared.grammar.RowId.{RowId}
-use Rattle.dk_engine.specs.Parts.{leaders_of}
 use Rattle.dk_engine.specs.Reading.{read_leaders, read_written, state_read}
+use Rattle.dk_engine.specs.Reading.Parts.{leaders_of}
 use Rattle.dk_engine.specs.declared.kept.Kept.{Kept}
 
 -- ---- a level

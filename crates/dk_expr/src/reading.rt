@@ -2,7 +2,7 @@
 ghost use Rattle.std.specs.Prelude.{◌≡◌, ◌↔◌, ◌⊎◌, ◌<◌, ◌≤◌, ◌^◌, ◌==◌, Contains, IfNone, IfOk, IfSome, IsSomeAnd, IsTrue, List, length, not};
 ghost use Rattle.std.specs.List.{list_all};
 ghost use Rattle.dk_base.specs.declared.kinds.VarId.{VarId};
-ghost use Rattle.dk_engine.specs.Ordering.{precedes as is_before};
+ghost use Rattle.dk_engine.specs.Sweeps.Ordering.{precedes as is_before};
 ghost use Rattle.dk_forms.specs.declared.states.State.{State};
 ghost use Rattle.dk_instances.specs.Instances.{Precedes, are_distinct, is_asked};
 ghost use Rattle.dk_print.specs.Texts.{instance_text};

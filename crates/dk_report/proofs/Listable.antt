@@ -18,7 +18,7 @@ use Rattle.dk_template.specs.declared.grammar.RowId.{RowId}
 use Rattle.dk_template.specs.declared.templates.Takes.{Takes}
 use Rattle.dk_template.specs.declared.templates.Takes.TheVariants.{One, Two, Three}
 use Rattle.dk_engine.specs.declared.kept.Kept.{Kept}
-use Rattle.dk_engine.specs.declared.slot.Slot.{Slot}
+use Rattle.dk_engine.specs.declared.slots.slot.Slot.{Slot}
 use Rattle.dk_report.specs.Asked.{candidates_equal, candidates_over, candidates_standing, here_of, listed_candidates_by, vars_for_row, views_of}
 use Rattle.dk_report.specs.Keeping.{keeps}
 use Rattle.dk_report.specs.Listing.{is_equality, is_listed, listed_candidates, may_equal}

@@ -4,11 +4,11 @@ use Rattle.std.proofs.lemmas.Result.{IfOk-weaker}
 use Rattle.dk_template.specs.Admitted.{admits}
 use Rattle.dk_engine.proofs.Leading.{admit_all, admitted_there}
 use Rattle.dk_engine.proofs.LevelFacts.{read_none, read_some}
-use Rattle.dk_engine.specs.Conditions.{CanBeFed}
 use Rattle.dk_engine.specs.Exact.{AreOfPoint}
-use Rattle.dk_engine.specs.Levels.{Level, Whole}
-use Rattle.dk_engine.specs.Parts.{leaders_of}
 use Rattle.dk_engine.specs.Reading.{read_leaders, state_read}
+use Rattle.dk_engine.specs.Reading.Levels.{Level, Whole}
+use Rattle.dk_engine.specs.Reading.Parts.{leaders_of}
+use Rattle.dk_engine.specs.Saved.Conditions.{CanBeFed}
 use Rattle.dk_engine.proofs.engine.Engine.state.Goals as goal
 
 pub returns-then-self-eq0-clause-state : goal.returns-then-self-eq0-clause-state
