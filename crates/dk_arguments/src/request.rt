@@ -9,9 +9,9 @@ use crate::Arguments;
 pub enum Request<A> {
     /// A run, of which these say what it is to do.
     Run(A),
-    /// The help text.
+    /// The help text is asked for.
     Help,
-    /// The version text.
+    /// The version text is asked for.
     Version,
 }
 

@@ -20,7 +20,7 @@ impl Model for Word {
 }
 
 impl Word {
-    /// This text.
+    /// A word with the bytes of a text.
     pub fn from_str(alloc: Global, text: &str) -> Result<Word, NoMemory>
         ensures { IfOk result (λ word. word ≡ text.now) }
     {
@@ -29,7 +29,7 @@ impl Word {
         })
     }
 
-    /// The text.
+    /// The word as the text that its bytes are.
     pub fn as_str(&self) -> &str
         ensures { result.now ≡ self.now }
     {

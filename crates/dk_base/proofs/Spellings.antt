@@ -3,7 +3,9 @@ use Rattle.std.proofs.Common.{◌≡◌, ◌≢◌, ◌↔◌, ◌<◌, ◌+◌,
 use Rattle.std.proofs.lemmas.Bool.{eqb-true, eqb-false, cond_both}
 use Rattle.std.proofs.lemmas.List.{drop_more}
 use Rattle.std.proofs.lemmas.List.Elements.{All-nil, All-cons, All-append}
-use Rattle.std.specs.Prelude.{◌==◌}
+use Rattle.std.proofs.lemmas.List.Folds.{list_any_at}
+use Rattle.std.specs.List.{list_any}
+use Rattle.std.specs.Prelude.{◌==◌, nat_eq}
 use Rattle.dk_base.specs.Names.{escaped, escaped_byte, unescaped}
 
 -- a byte that is no backslash stands for itself
@@ -24,6 +26,12 @@ pub plain : (text : List ℕ) → ((k : ℕ) → k < length text → get_or text
 unfolding unescaped
 plain [] other = refl
 plain (b ∷ bs) other = plain_byte b bs (is_other b (other 0 (omega arith))) ∙ ap (λ cs. b ∷ cs) (plain bs (λ k lt. other (suc k) (omega arith)))
+
+pub plain_without : (text : List ℕ) → list_any (λ b. nat_eq b 92) text ≡ false → unescaped text ≡ text
+plain_without text none = plain text (λ k lt is.
+    let found : list_any (λ b. nat_eq b 92) text ≡ true = list_any_at (λ b. nat_eq b 92) text k 0 lt (ap (λ (b : ℕ). nat_eq b 92) is) in
+    let never : true ≡ false = sym found ∙ none in
+    absurd (cc never))
 
 pub as_spelled : (text name : List ℕ) → text ≡ name → unescaped text ≡ text → unescaped text ≡ name
 as_spelled text name same means = means ∙ same

@@ -51,15 +51,15 @@ pub fn comparable(a: Compar, b: Compar) -> bool
 /// derived from a sequence, or from a sequence and a whole number as an index.
 #[derive(Clone, Copy, Debug, PartialEq, Eq)]
 pub enum Form {
-    /// Declared.
+    /// The variable stands in the declaration itself.
     Declared,
     /// What a declared one had at the entry.
     Orig,
     /// The number of elements.
     Size(VarId),
-    /// The first element.
+    /// The first element of the sequence that is the variable's value.
     First(VarId),
-    /// The last element.
+    /// The last element of the sequence that is the variable's value.
     Last(VarId),
     /// The element at the index.
     At(VarId, VarId),

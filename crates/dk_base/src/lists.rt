@@ -29,7 +29,7 @@ impl<T> List<T> {
         }
     }
 
-    /// These items.
+    /// A list with the items of a slice, in their order.
     pub fn from_slice(alloc: Global, items: &[T]) -> Result<List<T>, NoMemory>
     where
         T: Copy,
@@ -65,7 +65,7 @@ impl<T> List<T> {
         self.kept.is_empty()
     }
 
-    /// The items.
+    /// All items of the list, in order, as they stand in its memory.
     pub fn as_slice(&self) -> &[T]
         ensures { result.now ≡ self.now }
     {

@@ -36,15 +36,11 @@ pub fn unescape(alloc: Global, text: &[u8]) -> Result<Text, NoMemory>
 }
 
 /// Whether no byte is a backslash. Then the spelling is the name.
+#[tactic(auto, using(crate::proofs::Spellings::plain_without))]
 pub fn is_plain(text: &[u8]) -> bool
     ensures { IsTrue result → unescaped text.now ≡ text.now }
 {
-    for byte in text {
-        if *byte == b'\\' {
-            return false;
-        }
-    }
-    true
+    !text.contains(&b'\\')
 }
 
 // Whether the text is a spelling of the name, byte by byte.

@@ -78,6 +78,7 @@ fn with_sign(is_negative: bool, size: u64) -> i64
 
 /// The whole number that up to 18 decimal digits with an optional minus in front write, and what follows them; none where no digit stands
 /// there, or more than 18. Whether a minus stands there is no branch, since in many traces it can't be foreseen.
+#[inline(always)]
 #[tactic(auto, unfolding(crate::specs::Numbers::short_number))]
 pub fn short_number(bytes: &[u8]) -> Option<(i64, &[u8])>
     ensures { option_map (λ r. (r.0, r.1.now)) result ≡ short_number bytes.now }

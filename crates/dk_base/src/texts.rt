@@ -30,7 +30,7 @@ impl Text {
         }
     }
 
-    /// These bytes.
+    /// A text with the bytes of a slice.
     pub fn from_slice(alloc: Global, items: &[u8]) -> Result<Text, NoMemory>
         ensures { IfOk result (λ text. text ≡ items.now) }
     {
@@ -80,7 +80,7 @@ impl Text {
         self.kept.is_empty()
     }
 
-    /// The bytes.
+    /// All bytes of the text, as they stand in its memory.
     pub fn as_slice(&self) -> &[u8]
         ensures { result.now ≡ self.now }
     {

@@ -123,7 +123,7 @@ fn ten(noise: &mut Noise, place: u32) -> [Option<i64>; 10] {
     ]
 }
 
-// Eight small numbers.
+// Draws eight small numbers.
 fn eight(noise: &mut Noise) -> [i64; 8]
     ensures { All (λ number. IsTrue (fits_i64 number)) result }
 {

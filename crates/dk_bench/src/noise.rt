@@ -13,7 +13,7 @@ impl Noise {
         Noise { state: 1 }
     }
 
-    /// The next one.
+    /// Draws the next number.
     pub fn next(&mut self) -> u64 {
         self.state ^= self.state << 13;
         self.state ^= self.state >> 7;

@@ -14,6 +14,7 @@ use Rattle.dk_binary.specs.declared.equality.Scalar.{Scalar}
 use Rattle.dk_binary.specs.declared.equality.Scalar.TheVariants.{Bool as BoolScalar, Hash as HashScalar, Str as StrScalar}
 use Rattle.dk_rows.specs.Laws.{is_row}
 use Rattle.dk_rows.specs.Relations.{differ, is_multiple, is_square}
+use Rattle.dk_template.specs.Numbers as number
 use Rattle.dk_template.specs.declared.grammar.RowId.{RowId}
 
 -- a row of two variables that aren't sequences
@@ -22,12 +23,12 @@ IsBinary r = (11 ≤ r.0) × (r.0 ≤ 23)
 
 -- ---- relations of two numbers
 abbrev pub compare_row : Compare → RowId
-compare_row Equal = record { 0 = 11 }
-compare_row Different = record { 0 = 12 }
-compare_row Less = record { 0 = 13 }
-compare_row AtMost = record { 0 = 14 }
-compare_row Multiple = record { 0 = 16 }
-compare_row Square = record { 0 = 17 }
+compare_row Equal = record { 0 = number.eq_int }
+compare_row Different = record { 0 = number.ne_int }
+compare_row Less = record { 0 = number.lt }
+compare_row AtMost = record { 0 = number.le }
+compare_row Multiple = record { 0 = number.divides }
+compare_row Square = record { 0 = number.square }
 
 abbrev pub relates : Compare → ℤ → ℤ → Bool
 relates Equal x y = int_eq x y
@@ -47,7 +48,7 @@ compare_is_row Square = refl
 
 -- ---- the line
 abbrev pub linear_row : RowId
-linear_row = record { 0 = 15 }
+linear_row = record { 0 = number.linear }
 
 pub linear_is_row : IsTrue (is_row linear_row)
 linear_is_row = refl

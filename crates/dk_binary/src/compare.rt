@@ -10,7 +10,7 @@ ghost use Rattle.dk_template.specs.Rows.{IsTuple};
 use crate::rows::join;
 use dk_base::{NoMemory, View, int_at};
 use dk_forms::{plain_point, plain_stays};
-use dk_template::{Row, RowId, State};
+use dk_template::{Row, RowId, State, rows};
 use std::alloc::Global;
 
 /// A relation of two numbers x and y.
@@ -50,12 +50,12 @@ impl Compare {
         ensures { result ≡ compare_row self }
     {
         RowId(match self {
-            Compare::Equal => 11,
-            Compare::Different => 12,
-            Compare::Less => 13,
-            Compare::AtMost => 14,
-            Compare::Multiple => 16,
-            Compare::Square => 17,
+            Compare::Equal => rows::EQ_INT,
+            Compare::Different => rows::NE_INT,
+            Compare::Less => rows::LT,
+            Compare::AtMost => rows::LE,
+            Compare::Multiple => rows::DIVIDES,
+            Compare::Square => rows::SQUARE,
         })
     }
 

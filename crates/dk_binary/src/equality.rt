@@ -10,7 +10,7 @@ use crate::rows::join;
 use crate::texts::same_text;
 use dk_base::{NoMemory, View, bool_at, hash_at, text_at};
 use dk_forms::{plain_point, plain_stays};
-use dk_template::{Row, RowId, State};
+use dk_template::{Row, RowId, State, rows};
 use std::alloc::Global;
 
 /// A kind of values that are neither numbers nor sequences.
@@ -24,7 +24,7 @@ pub enum Scalar {
 /// That two values of the kind are equal, or that they differ.
 #[derive(Clone, Copy, Debug, PartialEq, Eq)]
 pub struct Equality {
-    /// Their kind.
+    /// The kind of both values.
     pub kind: Scalar,
     /// Whether they are equal.
     pub equal: bool,
@@ -57,9 +57,9 @@ impl Equality {
         ensures { result ≡ equality_row self }
     {
         let differing = match self.kind {
-            Scalar::Bool => 19,
-            Scalar::Hash => 21,
-            Scalar::Str => 23,
+            Scalar::Bool => rows::NE_BOOL,
+            Scalar::Hash => rows::NE_HASH,
+            Scalar::Str => rows::NE_STR,
         };
         RowId(if self.equal { differing - 1 } else { differing })
     }

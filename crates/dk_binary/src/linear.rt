@@ -10,7 +10,7 @@ ghost use Rattle.dk_template.specs.Rows.{IsTuple};
 use crate::rows::join;
 use dk_base::{NoMemory, View, int_at};
 use dk_forms::{line_point, line_stays};
-use dk_template::{Row, RowId, State};
+use dk_template::{Row, RowId, State, rows};
 use std::alloc::Global;
 
 /// The line through all points (x, y). Points with a coordinate beyond 2^62 lie on none.
@@ -22,7 +22,7 @@ impl Linear {
     pub fn row(self) -> RowId
         ensures { result ≡ linear_row }
     {
-        RowId(15)
+        RowId(rows::LINEAR)
     }
 }
 

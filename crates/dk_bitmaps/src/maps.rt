@@ -75,7 +75,7 @@ pub(crate) fn leader_maps(
     Ok(maps)
 }
 
-// The greatest count.
+// The greatest count of the patterns that are held.
 fn most(held: &[Held]) -> u64
     ensures { All (λ h. h.count ≤ result) held.now }
 {

@@ -20,24 +20,24 @@ use crate::block::{Block, State, is_comment, is_declaration, is_list_of_implemen
 use crate::first_lines::is_plainly_sample;
 use crate::found::Found;
 use bumpalo::Bump;
-use dk_base::{BlockFault, NoMemory, PointId, View};
+use dk_base::{BlockFault, NoMemory, View};
 use dk_calls::{Calls, is_entry};
 use dk_decl::{DeclBlock, Header, PointDecl};
 use dk_points::{Declared, Points};
-use dk_trace::{BaseSample, RecordReader, Whole, read_whole};
+use dk_trace::{BaseSample, Recent, RecordReader, Whole, read_whole};
 use std::alloc::Global;
 use std::marker::Model;
 use std::mem::replace;
 
 /// What a reader keeps from block to block: the table of points, what the header lines have put in force, the entries of the file that
-/// wait, and the point of the last record.
+/// wait, and the points that had a record last.
 #[derive(Drop)]
 pub(crate) struct Kept {
     alloc: Global,
     points: Points,
     header: Header,
     calls: Calls,
-    last: PointId,
+    recent: Recent,
 }
 
 impl Model for Kept {
@@ -101,7 +101,7 @@ fn or_left_out<'a>(ignores: bool, fault: BlockFault) -> Result<Option<Found<'a>>
 impl Kept {
     ghost use Rattle.dk_blocks.specs.Standing.{Stands, Fits, BlockGoesOn, Closes, DeclaredAs, IsBetweenFiles, IsDeclared, left_behind, left_with_answer, block_resumed, resumed_by};
 
-    /// No points.
+    /// What is kept before the first block: no points.
     #[tactic(auto, unfolding(crate::specs::Standing::Stands))]
     pub(crate) fn new(alloc: Global) -> Result<Kept, NoMemory>
         ensures stands { IfOk result (λ kept. (grammar : Grammar) → Stands kept (nothing_by grammar)) }
@@ -112,7 +112,7 @@ impl Kept {
             points: Points::new(alloc)?,
             header: Header::new(),
             calls: Calls::new(alloc)?,
-            last: PointId(0),
+            recent: Recent::new(),
         })
     }
 
@@ -129,7 +129,7 @@ impl Kept {
             points,
             header: Header::with_word(implicit),
             calls,
-            last: PointId(0),
+            recent: Recent::new(),
         }
     }
 
@@ -370,7 +370,7 @@ impl Kept {
         ensures points { self.new.points ≡ self.old.points }
         ensures fits { IfOk result (λ found. FoundFits self.new.points found) }
     {
-        self.last = sample.point;
+        self.recent = self.recent.with_record_of(sample.point);
         match base_values(&self.points, &mut self.calls, arena, sample) {
             Ok(values) => Ok(Some(Found::Sample {
                 point: sample.point,
@@ -396,7 +396,7 @@ impl Kept {
             points,
             header,
             calls,
-            last,
+            recent,
         } = self;
         match points.declare(decl, line) {
             Ok((points, declared)) => Ok((
@@ -405,7 +405,7 @@ impl Kept {
                     points,
                     header,
                     calls,
-                    last,
+                    recent,
                 },
                 declared,
             )),
@@ -451,7 +451,7 @@ impl Kept {
     ) -> Result<Option<Whole<'a>>, NoMemory>
         ensures { IfOk result (λ found. IfSome found (IsAtHand self.now number bytes.now)) }
     {
-        match read_whole(self.alloc, &self.points, self.last, arena, number, bytes) {
+        match read_whole(self.alloc, &self.points, self.recent, arena, number, bytes) {
             Ok(Some(whole)) => {
                 if self.begins_record(&bytes[..whole.first_len]) {
                     Ok(Some(whole))

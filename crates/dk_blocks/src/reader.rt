@@ -200,7 +200,7 @@ fn with_line<'a>(
     }
 }
 
-// Reads one line.
+// Reads one line of a block and takes it.
 fn take_line<'a, I: Inputs>(
     kept: &Kept,
     block: &mut Block<'a>,

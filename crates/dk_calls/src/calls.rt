@@ -93,7 +93,9 @@ fn with_entry<'a>(
     ensures { IfOk result (λ views. values_of views.now ≡ values_of sample.now.values.now
         ++ orig_values (own_vars points.now entry.0) (own_vars points.now sample.now.point.0) kept.now) }
 {
-    let values = Vec::from_slice(arena, sample.values)?;
+    let room = sample.values.len().saturating_add(kept.len());
+    let mut values = Vec::with_capacity(arena, room)?;
+    values.extend_from_slice(sample.values)?;
     let more = with_origs(
         arena,
         values,
@@ -107,7 +109,7 @@ fn with_entry<'a>(
 impl Calls {
     ghost use Rattle.dk_calls.specs.Standing.{CallsStandForRecords, Holds, WaitAlike};
 
-    /// No entry waits.
+    /// No entry waits yet.
     pub fn new(alloc: Global) -> Result<Calls, NoMemory>
         ensures { IfOk result (λ calls. CallsStandForRecords calls []) }
     {

@@ -15,7 +15,7 @@ pub(crate) struct Nonces {
 impl Nonces {
     ghost use Rattle.dk_calls.specs.Nonces.{same_key, values_under};
 
-    /// No entry waits.
+    /// No entry waits yet.
     #[tactic(auto, unfolding(crate::specs::Nonces::values_under))]
     pub(crate) fn new(alloc: Global) -> Nonces
         ensures { (q : ℕ) (m : ℤ) → values_under q m result ≡ [] }
@@ -79,7 +79,7 @@ impl Nonces {
         }
     }
 
-    /// No entry waits.
+    /// Forgets all entries that wait.
     #[tactic(auto, unfolding(crate::specs::Nonces::values_under))]
     pub(crate) fn clear(&mut self)
         ensures { (q : ℕ) (m : ℤ) → values_under q m self.new ≡ [] }

@@ -54,7 +54,7 @@ impl Model for Stack {
 }
 
 impl Stack {
-    /// No entry waits.
+    /// No entry waits yet.
     pub(crate) fn new(alloc: Global) -> Stack
         ensures { result ≡ [] }
     {
@@ -120,7 +120,7 @@ impl Stack {
         }
     }
 
-    /// No entry waits.
+    /// Forgets all entries that wait.
     pub(crate) fn clear(&mut self)
         ensures { self.new ≡ [] }
     {

@@ -81,7 +81,7 @@ impl Kept {
     ghost use Rattle.dk_core.specs.Steps.{KeptCounts, NextKept};
     ghost use Rattle.dk_core.specs.Taking.{TakenAs};
 
-    /// No points.
+    /// What is kept before the first block: no points.
     #[tactic(auto, unfolding(crate::specs::Standing::Stands))]
     pub(crate) fn new(alloc: Global, grammar: Grammar) -> Result<Kept, NoMemory>
         ensures stands { IfOk result (λ kept. Stands kept (nothing_by grammar)) }

@@ -22,7 +22,7 @@ pub struct ParentVar {
 /// A declared variable.
 #[derive(Debug, Drop)]
 pub struct VarDecl {
-    /// Its name.
+    /// The name of the variable.
     pub name: Text,
     /// The kind of its values; none for an opaque variable, whose values are not read.
     pub kind: Option<Kind>,
@@ -39,7 +39,7 @@ pub struct VarDecl {
 /// A declared point.
 #[derive(Debug, Drop)]
 pub struct PointDecl {
-    /// Its name.
+    /// The name of the point.
     pub name: Text,
     /// Its edges to parent points, in order; no two have the same parent and ID.
     pub edges: List<EdgeDecl>,

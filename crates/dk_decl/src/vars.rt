@@ -31,7 +31,7 @@ impl Model for Vars {
 }
 
 impl Vars {
-    /// No variables.
+    /// Variables of a declaration of which no line has been read.
     pub(crate) fn new(alloc: Global) -> Vars
         ensures { result ≡ [] }
     {

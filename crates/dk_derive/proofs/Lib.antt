@@ -1,4 +1,5 @@
 pub mod Texts
+pub mod Bases
 pub mod Parts
 pub mod Written
 pub mod Typed

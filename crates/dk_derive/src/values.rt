@@ -1,5 +1,7 @@
 // The values of derived variables.
-ghost use Rattle.std.specs.Prelude.{◌≡◌, ◌-◌, All, IfOk, length, option_and_then, option_map, slice_get};
+ghost use Rattle.std.specs.Prelude.{◌≡◌, ◌-◌, All, IfOk, length, option_and_then, option_map, slice_get, true};
+ghost use Rattle.std.specs.List.{list_all};
+ghost use Rattle.dk_base.specs.Shapes.{is_base_form};
 ghost use Rattle.dk_base.specs.Spelling.{IsWritten};
 ghost use Rattle.dk_base.specs.Tuples.{value_at};
 ghost use Rattle.dk_base.specs.Values.{value_of, values_of};
@@ -162,7 +164,7 @@ fn at<'a>(base: &[View<'a>], var: VarId) -> View<'a>
     base_value(base, var.0 as usize)
 }
 
-// The last element.
+// The last element of a sequence, which is missing where there is none.
 fn last<'a>(sequence: View<'a>) -> View<'a>
     ensures { value_of result ≡ element (value_of sequence.entry) (Some (number_of_elements (value_of sequence.entry) - 1)) }
 {
@@ -205,17 +207,38 @@ fn value_by_form<'a>(base: &[View<'a>], place_of_var: usize, form: Form) -> View
     }
 }
 
-/// The values of all variables in order, from those of the base variables, which stand first.
+fn are_base_vars(vars: &[VarInfo]) -> bool
+    ensures { result ≡ list_all (λ v. is_base_form v.form) vars.now }
+{
+    for var in vars {
+        if !is_base_form(var.form) {
+            return false;
+        }
+    }
+    true
+}
+
+// Whether these are the values of all the variables: there are as many, and no variable is derived.
+fn are_all_values(vars: &[VarInfo], base: &[View<'_>]) -> bool
+    ensures { result ≡ true → values_by_form vars.now (values_of base.now) ≡ values_of base.now }
+{
+    vars.len() == base.len() && are_base_vars(vars)
+}
+
+/// The values of all variables in order, from those of the base variables, which stand first. Where no variable is derived, these are all.
 ///
 /// Slices are parts of the base variables' sequences: no element is copied.
 pub fn extend<'a>(
     arena: &'a Arena,
     vars: &[VarInfo],
-    base: &[View<'a>],
+    base: &'a [View<'a>],
 ) -> Result<&'a [View<'a>], NoMemory>
     ensures values { IfOk result (λ values. values_of values.now ≡ values_by_form vars.now (values_of base.now)) }
     ensures written { All IsWritten (values_of base.now) → IfOk result (λ values. All IsWritten (values_of values.now)) }
 {
+    if are_all_values(vars, base) {
+        return Ok(base);
+    }
     let mut values: Vec<View<'a>, &'a Arena> = Vec::with_capacity(arena, vars.len())?;
     for (place, var) in vars.iter().enumerate() {
         values.push(value_by_form(base, place, var.form))?;

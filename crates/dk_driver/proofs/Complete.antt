@@ -2,48 +2,35 @@
 use Rattle.std.proofs.Common.{◌≡◌, ◌≤◌, ◌<◌, ◌+◌, ◌-◌, inl, inr, Bool, ℕ, zero, suc, List, [], ◌∷◌, map, take, length, Option, Some, Result, Ok, Err, IfErr, refl, sym, ◌∙◌, ap, subst, arith}
 use Rattle.std.proofs.lemmas.Bool.{cases_lt}
 use Rattle.std.proofs.lemmas.List.{length-take, take-map, take-take, take_all}
-use Rattle.dk_base.specs.Reading.{LineFault}
 use Rattle.dk_base.specs.declared.why.Why.{Why}
-use Rattle.dk_blocks.specs.History.{History, file_ended, no_history}
+use Rattle.dk_blocks.specs.History.{History, no_history}
 use Rattle.dk_io.specs.Outside.{HeldFile, Holds}
 use Rattle.dk_driver.proofs.Running.{helds_length}
+use Rattle.dk_driver.proofs.Trails.{trail_front}
 use Rattle.dk_driver.specs.Consuming.{Told}
 use Rattle.dk_driver.specs.Files.{AreHeldFiles, FaultAt, File, ended_file}
 use Rattle.dk_driver.specs.Reads.{AreClean, AtStart, Break, HasBroken, HasCause, IsComplete, IsPlaced, IsRefusedAt, ReadingSays, Within, held_file_at, helds_of}
-use Rattle.dk_driver.specs.Walks.{Walk, end_of, fault_in, first_fault, then_files, walk_of, walk_of_file, walk_of_files}
+use Rattle.dk_driver.specs.Trails.{Trail}
+use Rattle.dk_driver.specs.Walks.{end_of, fault_in, first_fault, walk_of}
 use Rattle.dk_driver.specs.declared.fault.FilesFault.{FilesFault}
 use Rattle.dk_driver.specs.declared.fault.FilesFault.TheVariants.{Refused, Start, Read, NoMemory}
 use Rattle.dk_driver.specs.declared.feed.Feed.{Feed}
 use Rattle.dk_driver.specs.declared.traces.Traces.{Traces}
 
 -- ---- later files don't change a fault
-then_same : (place : ℕ) (r : Result History LineFault) (more other : History → Walk FaultAt) (f : FaultAt)
-    → ((h : History) → (more h).end ≡ Err f → (other h).end ≡ Err f) → (then_files place r more).end ≡ Err f → (then_files place r other).end ≡ Err f
-then_same place (Ok h) more other f same e = same h e
-then_same place (Err l) more other f same e = e
-
-front_end : (ignores : Bool) (room : ℕ) (h : History) (place : ℕ) (k : ℕ) (fs : List File) (f : FaultAt) → (walk_of_files ignores room h place (take k fs)).end ≡ Err f
-    → (walk_of_files ignores room h place fs).end ≡ Err f
-front_end ignores room h place zero fs f e = absurd (cc (e))
-front_end ignores room h place (suc k) [] f e = e
-front_end ignores room h place (suc k) (x ∷ xs) f e =
-    then_same place (walk_of_file ignores room h place x).end (λ next. walk_of_files ignores (room - length x.bytes) (file_ended next) (place + 1) (take k xs))
-    (λ next. walk_of_files ignores (room - length x.bytes) (file_ended next) (place + 1) xs) f
-    (λ next. front_end ignores (room - length x.bytes) (file_ended next) (place + 1) k xs f) e
-
 -- the first fault of a front of the files is that of all of them
 first_front : (ignores : Bool) (whole : ℕ) (k : ℕ) (fs : List File) (f : FaultAt) → end_of ignores whole (take k fs) ≡ Err f → end_of ignores whole fs ≡ Err f
 unfolding walk_of
-first_front ignores whole k fs f e = front_end ignores whole no_history 0 k fs f e
+first_front ignores whole k fs f e = ap (λ (t : Trail FaultAt). t.end) (sym (trail_front ignores whole no_history 0 k fs f e)) ∙ e
 
 -- ---- files that are held
-held_take : (k : ℕ) (helds : List HeldFile) (contents : List (List ℕ)) → AreHeldFiles helds contents → AreHeldFiles (take k helds) (take k contents)
+pub held_take : (k : ℕ) (helds : List HeldFile) (contents : List (List ℕ)) → AreHeldFiles helds contents → AreHeldFiles (take k helds) (take k contents)
 held_take k helds contents held = ap (λ (l : List HeldFile). take k l) held ∙ take-map Holds k contents
 
-held_whole : (helds : List HeldFile) (contents : List (List ℕ)) (n : ℕ) → length helds ≤ n → AreHeldFiles helds contents → AreHeldFiles (take n helds) contents
+pub held_whole : (helds : List HeldFile) (contents : List (List ℕ)) (n : ℕ) → length helds ≤ n → AreHeldFiles helds contents → AreHeldFiles (take n helds) contents
 held_whole helds contents n h held = subst (λ (l : List HeldFile). AreHeldFiles l contents) (sym (take_all n helds h)) held
 
-held_there : (helds : List HeldFile) (contents : List (List ℕ)) (k : ℕ) → AreHeldFiles helds contents → k < length helds → (xs : List ℕ) × (held_file_at helds k ≡ Holds xs)
+pub held_there : (helds : List HeldFile) (contents : List (List ℕ)) (k : ℕ) → AreHeldFiles helds contents → k < length helds → (xs : List ℕ) × (held_file_at helds k ≡ Holds xs)
 held_there [] contents k held h = absurd (omega arith)
 held_there (n ∷ ns) [] k held h = absurd (cc (held))
 held_there (n ∷ ns) (c ∷ cs) zero held h = (c, cc (held))

@@ -1,6 +1,6 @@
 mod Delivering
 pub mod Complete
-pub mod Walks
+pub mod Trails
 pub mod Filing
 pub mod Running
 pub mod Taking

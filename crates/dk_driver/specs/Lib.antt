@@ -5,7 +5,9 @@ pub mod Standing
 pub mod Walks
 pub mod Files
 pub mod Laws
--- what holds within a file, and between files
+-- what those are made of
+pub mod Trails
+-- what holds within a file, and between files, for the loops of this crate and others
 pub mod WholeFile
 pub mod AllFiles
 pub mod Steps

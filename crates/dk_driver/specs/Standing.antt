@@ -4,6 +4,8 @@ use Rattle.dk_blocks.specs.History.{History}
 use Rattle.dk_events.specs.Standing.{EventsStandFor, points_of as points_in}
 use Rattle.dk_points.specs.Table.{Point}
 use Rattle.dk_driver.specs.Consuming.{Record, Told}
+use Rattle.dk_driver.specs.Trails.{Step}
+use Rattle.dk_driver.specs.Walks.{records_of}
 use Rattle.dk_driver.specs.declared.feed.Feed.{Feed}
 
 -- the points that are declared so far
@@ -18,3 +20,7 @@ told_by h records = record { points = h.table; samples = h.samples; records = re
 pub record StandsFor {C : Type 0} (Stands : C → Told → Type 0) (feed : Feed C) (h : History) (records : List Record) : Type 0 where
   pub events : EventsStandFor feed.events h
   pub consumer : Stands feed.consumer (told_by h records)
+
+-- It stands for the history behind these steps.
+abbrev pub StandsBehind : {C : Type 0} → (C → Told → Type 0) → Feed C → History → List Step → Type 0
+StandsBehind Stands feed h steps = StandsFor Stands feed h (records_of steps)

@@ -27,6 +27,16 @@ pub struct Feed<C> {
     pub(crate) consumer: C,
 }
 
+/// How many bytes of an arena may be kept for the values of the next block.
+const KEPT: usize = 65_536;
+
+// Gives up what the arena held. It keeps memory for the next block, if it has not taken much.
+fn empty(alloc: Global, arena: &mut Bump) {
+    if arena.allocated_bytes() > KEPT || arena.reset().is_err() {
+        *arena = Bump::new(alloc);
+    }
+}
+
 impl<C: Consumer> Feed<C> {
     // In front of all blocks. Exits without an entry are left out, or refused.
     pub(crate) fn new(
@@ -49,11 +59,12 @@ impl<C: Consumer> Feed<C> {
         })
     }
 
-    // Reads the next block of the started file, which has this place among the files, and hands it on: whether there is one. After a fault
-    // nothing is said of what is kept.
+    // Reads the next block of the started file, which has this place among the files, and hands it on: whether there is one. What the arena
+    // held is given up first. After a fault nothing is said of what is kept.
     pub(crate) fn next<I: Inputs>(
         &mut self,
         place: usize,
+        arena: &mut Bump,
         inputs: &mut I,
         lines: &mut Lines,
     ) -> Result<bool, Fault>
@@ -70,8 +81,8 @@ impl<C: Consumer> Feed<C> {
         ensures later { I.faults inputs.old ≤ I.faults inputs.new }
         ensures cause { (file : ℕ) → IsErrOf result (Fault.Read file) → Rose (I.faults inputs.old) (I.faults inputs.new) }
     {
-        let arena = Bump::new(self.alloc);
-        match self.events.next(&arena, inputs, lines)? {
+        empty(self.alloc, arena);
+        match self.events.next(arena, inputs, lines)? {
             Some(event) => match self.consumer.take(self.events.points(), place, event) {
                 Ok(()) => Ok(true),
                 Err(NoMemory) => Err(Fault::NoMemory),

@@ -4,16 +4,18 @@ ghost use Rattle.dk_blocks.specs.History.{History};
 ghost use Rattle.dk_events.specs.Standing.{ignores_of, over_of};
 ghost use Rattle.dk_io.specs.Outside.{Absent, Holds, Rose};
 ghost use Rattle.dk_lines.specs.Reading.{left_of, room_of};
-ghost use Rattle.dk_driver.specs.AllFiles.{AreReadTo, FilesGive};
-ghost use Rattle.dk_driver.specs.Consuming.{Record, nothing_told};
+ghost use Rattle.dk_driver.specs.AllFiles.{FilesGive, TracesAreReadTo};
+ghost use Rattle.dk_driver.specs.Consuming.{nothing_told};
 ghost use Rattle.dk_driver.specs.Files.{file_name_at};
 ghost use Rattle.dk_driver.specs.Reads.{HasCause, IsComplete, IsPlaced, ReadingSays};
-ghost use Rattle.dk_driver.specs.Standing.{StandsFor, points_of};
+ghost use Rattle.dk_driver.specs.Standing.{StandsBehind, points_of};
+ghost use Rattle.dk_driver.specs.Trails.{Step};
 ghost use Rattle.dk_driver.specs.Walks.{line_limit};
 ghost use Rattle.dk_driver.specs.WholeFile.{FileGives, StartedGives};
 
 use crate::fault::FileFault;
 use crate::{Consumer, Feed, FilesFault, Traces};
+use bumpalo::Bump;
 use dk_arguments::Word;
 use dk_io::{Failed, Inputs};
 use dk_lines::Lines;
@@ -30,8 +32,8 @@ fn read_started<C: Consumer, I: Inputs>(
     requires started { lines.old.is_started ≡ true }
     requires begins { over_of feed.events ≡ false }
     ensures fits { IfOk result (λ next. C.fits next.consumer (points_of next)) }
-    ensures gives { (h : History) (records : List Record) → StandsFor C.stands feed h records → IfSome (left_of lines.old (I.rest inputs.old))
-        (λ xs. StartedGives C.stands (ignores_of feed.events) place h records lines.old xs result lines.new (left_of lines.new (I.rest inputs.new))) }
+    ensures gives { (h : History) (steps : List Step) → StandsBehind C.stands feed h steps → IfSome (left_of lines.old (I.rest inputs.old))
+        (λ xs. StartedGives C.stands (ignores_of feed.events) place h steps lines.old xs result lines.new (left_of lines.new (I.rest inputs.new))) }
     ensures given { IfOk result (λ next. C.given next.consumer ≡ C.given feed.consumer) }
     ensures counts { IfOk result (λ next. (over_of next.events ≡ false) × (ignores_of next.events ≡ ignores_of feed.events)) }
     ensures started { result ≢ Err FileFault.Start }
@@ -42,8 +44,9 @@ fn read_started<C: Consumer, I: Inputs>(
     ensures cause { IsErrOf result FileFault.Read → Rose (I.faults inputs.old) (I.faults inputs.new) }
 {
     let mut feed = feed;
+    let mut arena = Bump::new(feed.alloc);
     'steps: loop {
-        match feed.next(place, inputs, lines) {
+        match feed.next(place, &mut arena, inputs, lines) {
             Ok(true) => continue 'steps,
             Ok(false) => return Ok(feed.end_file()),
             Err(fault) => return Err(FileFault::from(fault)),
@@ -62,8 +65,8 @@ fn read_file<C: Consumer, I: Inputs>(
     requires fits { C.fits feed.consumer (points_of feed) }
     requires begins { over_of feed.events ≡ false }
     ensures fits { IfOk result (λ next. C.fits next.consumer (points_of next)) }
-    ensures gives { (h : History) (records : List Record) → StandsFor C.stands feed h records → (xs : List ℕ) → I.file inputs.old name.now ≡ Holds xs
-        → FileGives C.stands (ignores_of feed.events) place h records lines.old xs result lines.new (I.rest inputs.new) }
+    ensures gives { (h : History) (steps : List Step) → StandsBehind C.stands feed h steps → (xs : List ℕ) → I.file inputs.old name.now ≡ Holds xs
+        → FileGives C.stands (ignores_of feed.events) place h steps lines.old xs result lines.new (I.rest inputs.new) }
     ensures given { IfOk result (λ next. C.given next.consumer ≡ C.given feed.consumer) }
     ensures counts { IfOk result (λ next. (over_of next.events ≡ false) × (ignores_of next.events ≡ ignores_of feed.events)) }
     // Only a file that could not be started may be absent, and of that one nothing was read.
@@ -100,7 +103,7 @@ fn read_all<C: Consumer, I: Inputs>(
     requires limits { lines.old.limits.line ≡ line_limit }
     requires ignores { ignores_of feed.events ≡ traces.now.ignore_missing_entry }
     ensures fits { IfOk result (λ next. C.fits next.consumer (points_of next)) }
-    ensures gives { (room : ℕ) → AreReadTo traces.now room (I.file inputs.old) (I.rest inputs.old) (I.rest inputs.old) (StandsFor C.stands feed) (room_of lines.old) 0
+    ensures gives { (room : ℕ) → TracesAreReadTo C.stands traces.now room (I.file inputs.old) (I.rest inputs.old) (I.rest inputs.old) feed (room_of lines.old) 0
         → FilesGive C.stands traces.now room (I.file inputs.old) (I.rest inputs.old) result lines.new (I.rest inputs.new) }
     ensures given { IfOk result (λ next. C.given next.consumer ≡ C.given feed.consumer) }
     ensures placed { IfErr result (IsPlaced (length traces.now.names)) }

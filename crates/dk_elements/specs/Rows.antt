@@ -24,6 +24,7 @@ use Rattle.dk_lanes.specs.declared.relation.Rel.{Rel}
 use Rattle.dk_lanes.specs.declared.relation.Rel.TheVariants.{Eq, Lt, Le, Gt, Ge}
 use Rattle.dk_rows.specs.Laws.{is_row}
 use Rattle.dk_rows.specs.Relations.{is_nonnull, is_nonzero, is_nonzero_hash}
+use Rattle.dk_template.specs.Numbers as number
 use Rattle.dk_template.specs.declared.grammar.RowId.{RowId}
 
 -- a row over the elements of a sequence, alone or with a number
@@ -32,10 +33,10 @@ IsElementRow r = ((35 ≤ r.0) × (r.0 ≤ 48)) ⊎ ((52 ≤ r.0) × (r.0 ≤ 56
 
 -- ---- the elements, where they are few
 abbrev pub one_of_row : OneOf → RowId
-one_of_row one_of.Int = record { 0 = 35 }
-one_of_row one_of.Bool = record { 0 = 44 }
-one_of_row one_of.Hash = record { 0 = 45 }
-one_of_row one_of.Str = record { 0 = 47 }
+one_of_row one_of.Int = record { 0 = number.elt_one_of_int }
+one_of_row one_of.Bool = record { 0 = number.elt_one_of_bool }
+one_of_row one_of.Hash = record { 0 = number.elt_one_of_hash }
+one_of_row one_of.Str = record { 0 = number.elt_one_of_str }
 
 abbrev pub one_of_kind : OneOf → Kind
 one_of_kind one_of.Int = kind.IntSeq
@@ -58,8 +59,8 @@ one_of_is_row one_of.Str = refl
 
 -- ---- a bound of the elements
 abbrev pub bound_row : Bound → RowId
-bound_row bound.Lower = record { 0 = 36 }
-bound_row bound.Upper = record { 0 = 37 }
+bound_row bound.Lower = record { 0 = number.elt_lower }
+bound_row bound.Upper = record { 0 = number.elt_upper }
 
 -- the state of the elements
 abbrev pub bound_state : Bound → List ℤ → State
@@ -72,9 +73,9 @@ bound_is_row bound.Upper = refl
 
 -- ---- no element is 0 or `null`
 abbrev pub non_null_row : NonNull → RowId
-non_null_row non_null.Int = record { 0 = 38 }
-non_null_row non_null.Hash = record { 0 = 46 }
-non_null_row non_null.Str = record { 0 = 48 }
+non_null_row non_null.Int = record { 0 = number.elt_non_zero }
+non_null_row non_null.Hash = record { 0 = number.elt_non_null_hash }
+non_null_row non_null.Str = record { 0 = number.elt_non_null_str }
 
 abbrev pub non_null_kind : NonNull → Kind
 non_null_kind non_null.Int = kind.IntSeq

@@ -12,7 +12,7 @@ ghost use Rattle.dk_template.specs.Templates.{form_of};
 use crate::rows::join;
 use dk_base::{NoMemory, View, ints_at};
 use dk_forms::{greatest_all_stay, greatest_point, least_all_stay, least_point};
-use dk_template::{Row, RowId, State};
+use dk_template::{Row, RowId, State, rows};
 use std::alloc::Global;
 
 /// A bound of the elements of a sequence of numbers: the least or the greatest of them. A sequence without elements gives no value.
@@ -28,8 +28,8 @@ impl Bound {
         ensures { result ≡ bound_row self }
     {
         RowId(match self {
-            Bound::Lower => 36,
-            Bound::Upper => 37,
+            Bound::Lower => rows::ELT_LOWER,
+            Bound::Upper => rows::ELT_UPPER,
         })
     }
 }

@@ -11,7 +11,7 @@ use crate::rows::join;
 use dk_base::{NoMemory, View, int_at, ints_at};
 use dk_forms::{plain_point, plain_stays};
 use dk_lanes::{Rel, all};
-use dk_template::{Row, RowId, State};
+use dk_template::{Row, RowId, State, rows};
 use std::alloc::Global;
 
 /// That each element of a sequence of numbers is in a relation with a number. A sequence without elements is in each relation.
@@ -24,11 +24,11 @@ impl Compare {
         ensures { result ≡ compare_row self }
     {
         RowId(match self.0 {
-            Rel::Eq => 52,
-            Rel::Lt => 53,
-            Rel::Le => 54,
-            Rel::Gt => 55,
-            Rel::Ge => 56,
+            Rel::Eq => rows::ELT_EQ,
+            Rel::Lt => rows::ELT_LT,
+            Rel::Le => rows::ELT_LE,
+            Rel::Gt => rows::ELT_GT,
+            Rel::Ge => rows::ELT_GE,
         })
     }
 

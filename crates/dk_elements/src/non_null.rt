@@ -11,7 +11,7 @@ use crate::rows::join;
 use dk_base::{NoMemory, View, hashes_at, ints_at, texts_at};
 use dk_forms::{plain_point, plain_stays};
 use dk_lanes::member;
-use dk_template::{Row, RowId, State};
+use dk_template::{Row, RowId, State, rows};
 use std::alloc::Global;
 
 /// That no number or hash code of a sequence is 0, or no string is `null`.
@@ -56,9 +56,9 @@ impl NonNull {
         ensures { result ≡ non_null_row self }
     {
         RowId(match self {
-            NonNull::Int => 38,
-            NonNull::Hash => 46,
-            NonNull::Str => 48,
+            NonNull::Int => rows::ELT_NON_ZERO,
+            NonNull::Hash => rows::ELT_NON_NULL_HASH,
+            NonNull::Str => rows::ELT_NON_NULL_STR,
         })
     }
 

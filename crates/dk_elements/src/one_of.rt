@@ -14,7 +14,7 @@ use dk_forms::{
     code_all_stay, code_point, ints_all_stay, ints_point, texts_all_stay, texts_point,
     truth_all_stay, truth_point,
 };
-use dk_template::{Row, RowId, State};
+use dk_template::{Row, RowId, State, rows};
 use std::alloc::Global;
 
 /// The elements of a sequence: at most three numbers or strings, one truth value, or one hash code. A sequence without elements gives
@@ -33,10 +33,10 @@ impl OneOf {
         ensures { result ≡ one_of_row self }
     {
         RowId(match self {
-            OneOf::Int => 35,
-            OneOf::Bool => 44,
-            OneOf::Hash => 45,
-            OneOf::Str => 47,
+            OneOf::Int => rows::ELT_ONE_OF_INT,
+            OneOf::Bool => rows::ELT_ONE_OF_BOOL,
+            OneOf::Hash => rows::ELT_ONE_OF_HASH,
+            OneOf::Str => rows::ELT_ONE_OF_STR,
         })
     }
 }

@@ -11,7 +11,7 @@ use crate::rows::join;
 use dk_base::{NoMemory, View, ints_at};
 use dk_forms::{plain_point, plain_stays};
 use dk_lanes::{Rel, sorted};
-use dk_template::{Row, RowId, State};
+use dk_template::{Row, RowId, State, rows};
 use std::alloc::Global;
 
 /// That each element of a sequence of numbers is in a relation with the next. Fewer than two elements are in each relation.
@@ -24,11 +24,11 @@ impl Sorted {
         ensures { result ≡ sorted_row self }
     {
         RowId(match self.0 {
-            Rel::Lt => 39,
-            Rel::Le => 40,
-            Rel::Gt => 41,
-            Rel::Ge => 42,
-            Rel::Eq => 43,
+            Rel::Lt => rows::SORTED_LT,
+            Rel::Le => rows::SORTED_LE,
+            Rel::Gt => rows::SORTED_GT,
+            Rel::Ge => rows::SORTED_GE,
+            Rel::Eq => rows::ELTS_EQUAL,
         })
     }
 

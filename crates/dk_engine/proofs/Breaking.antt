@@ -10,11 +10,12 @@ use Rattle.dk_fits.specs.Fits.{is_whole, tuple_in}
 use Rattle.dk_forms.specs.Known.{Known, both, broken, fact, nothing}
 use Rattle.dk_forms.specs.Plain.{plain_known, plain_state}
 use Rattle.dk_forms.specs.declared.states.State.{State}
-use Rattle.dk_forms.specs.declared.states.State.TheVariants.{Broken, Empty}
+use Rattle.dk_forms.specs.declared.states.State.TheVariants.{Broken, Holds}
 use Rattle.dk_rows.proofs.RowLaws.{plain_row_of_one}
 use Rattle.dk_rows.specs.Meanings.{meanings, relation_of, state_of}
 use Rattle.dk_samples.specs.Samples.{value_in}
 use Rattle.dk_template.specs.Joins.{joined}
+use Rattle.dk_template.specs.Proper.{IsProper}
 use Rattle.dk_template.specs.Templates.{form_of, is_plain, rows}
 use Rattle.dk_template.specs.declared.grammar.RowId.{RowId}
 use Rattle.dk_template.specs.declared.templates.StateForm.{StateForm}
@@ -22,30 +23,35 @@ use Rattle.dk_template.specs.declared.templates.StateForm.TheVariants as form
 use Rattle.dk_ternary.specs.Rows.{is_result, operation_is_row, operation_row}
 use Rattle.dk_ternary.specs.declared.operation.Operation.{Operation}
 use Rattle.dk_ternary.specs.declared.operation.Operation.TheVariants.{Sum, Difference, Product, Minimum, Maximum, Quotient, Remainder, And, Or, Xor, Gcd}
-use Rattle.dk_engine.specs.Feeding.{is_broken, with_sample}
+use Rattle.dk_engine.specs.Feeding.{with_sample}
 
 clash_absorbs : (a : Known (Unit {0})) → plain_state (both (λ _ _. fact tt) a broken) ≡ Broken
 clash_absorbs nothing = refl
 clash_absorbs broken = refl
 clash_absorbs (fact u) = refl
 
-known_breaks : (a b : Known (Unit {0})) → plain_state (both (λ _ _. fact tt) nothing b) ≡ Broken → plain_state (both (λ _ _. fact tt) a b) ≡ Broken
-known_breaks a nothing h = absurd (false≢true (ap is_broken h))
-known_breaks a broken h = clash_absorbs a
-known_breaks a (fact u) h = absurd (false≢true (ap is_broken h))
+unheld_absorbs : (a b : Known (Unit {0})) → (plain_state (both (λ _ _. fact tt) (fact tt) b) ≡ Holds → ⊥) → plain_state (both (λ _ _. fact tt) a b) ≡ Broken
+unheld_absorbs a nothing h = absurd (h refl)
+unheld_absorbs a broken h = clash_absorbs a
+unheld_absorbs a (fact u) h = absurd (h refl)
 
-joined_breaks : (f : StateForm) → is_plain f ≡ true → (s t : State) → joined f Empty t ≡ Broken → joined f s t ≡ Broken
-joined_breaks form.Plain is s t h = known_breaks (plain_known s) (plain_known t) h
-joined_breaks _ is s t h = absurd (false≢true is)
+joined_unheld : (f : StateForm) → is_plain f ≡ true → (s t : State) → (joined f Holds t ≡ Holds → ⊥) → joined f s t ≡ Broken
+joined_unheld form.Plain is s t h = unheld_absorbs (plain_known s) (plain_known t) h
+joined_unheld _ is s t h = absurd (false≢true is)
 
-pub sample_breaks : (row : RowId) → is_plain (form_of row) ≡ true → (vars : List VarId) (sample : List Value) → with_sample row vars sample Empty ≡ Broken → (s : State) → with_sample row vars sample s ≡ Broken
-sample_breaks row plain vars sample h s =
+-- a tuple that doesn't leave Holds as it is
+pub unheld_breaks : (row : RowId) → is_plain (form_of row) ≡ true → (vars : List VarId) (sample : List Value) → (with_sample row vars sample Holds ≡ Holds → ⊥) → (s : State) → with_sample row vars sample s ≡ Broken
+unheld_breaks row plain vars sample h s =
     let t = tuple_in vars sample in
     let one = state_of row (t ∷ []) in
-    elim (is_whole t) as (λ b. cond b (joined (form_of row) Empty one) Empty ≡ Broken → cond b (joined (form_of row) s one) s ≡ Broken) [
-      | true ↦ λ e. joined_breaks (form_of row) plain s one e
-      | false ↦ λ e. absurd (false≢true (ap is_broken e))
+    elim (is_whole t) as (λ b. (cond b (joined (form_of row) Holds one) Holds ≡ Holds → ⊥) → cond b (joined (form_of row) s one) s ≡ Broken) [
+      | true ↦ λ e. joined_unheld (form_of row) plain s one e
+      | false ↦ λ e. absurd (e refl)
     ] h
+
+pub holds_is_proper : (f : StateForm) → is_plain f ≡ true → IsProper f Holds
+holds_is_proper form.Plain is = tt
+holds_is_proper _ is = absurd (false≢true is)
 
 -- ---- three numbers of which one isn't the result of an operation on the others
 operation_relation : (r : Operation) (t : List Value) → relation_of (operation_row r) t ≡ is_result r (int_of (value_at t 0)) (int_of (value_at t 1)) (int_of (value_at t 2))

@@ -1,9 +1,13 @@
--- The row of which a rule asks for the least or the greatest element.
+-- The row of which a rule asks for the least or the greatest element, and rows that no rule concludes.
 use Rattle.std.specs.Prelude.{◌≡◌, ◌&&◌, ◌||◌, ◌==◌, ℕ, Bool, true, false, List, [], ◌∷◌, cond, filter, map, refl}
-use Rattle.std.specs.List.{list_any}
+use Rattle.std.specs.List.{list_all, list_any}
 use Rattle.std.proofs.Common.{ap, ◌∙◌, inl, inr, subst, sym}
-use Rattle.std.proofs.lemmas.Bool.{cases_eq, ne_eqb}
-use Rattle.dk_suppress.specs.Rules.{Rule, rules}
+use Rattle.std.proofs.lemmas.Bool.{cases_eq, ne_eqb, or_parts}
+use Rattle.dk_base.specs.declared.kinds.VarId.{VarId}
+use Rattle.dk_forms.specs.declared.states.State.{State}
+use Rattle.dk_suppress.specs.Rules.{Rule, has_rule, is_suppressed, rules}
+use Rattle.dk_template.specs.Premises.{premise_fits}
+use Rattle.dk_template.specs.declared.grammar.RowId.{RowId}
 use Rattle.dk_engine.specs.Step.{asks_elements}
 
 abbrev conclusion : Rule → ℕ
@@ -35,3 +39,14 @@ asks_for_elements n = any_asking n rules ∙ (ap (list_any (λ m. m == n)) askin
   | inl e ↦ subst (λ m. ((38 == m) || ((38 == m) || false)) ≡ (m == 38)) (sym e) refl
   | inr ne ↦ ap (λ b. b || (b || false)) (ne_eqb 38 n (λ e. ne (sym e))) ∙ sym (ne_eqb n 38 ne)
 ])
+
+-- ---- rows that no rule concludes
+none_of : (rs : List Rule) (n : ℕ) (test : Rule → Bool) → list_any (λ (r : Rule). r.0.0 == n) rs ≡ false → list_any (λ (r : Rule). r.0.0 == n && test r) rs ≡ false
+none_of [] n test h = refl
+none_of (r ∷ rs) n test h =
+    let later = list_any (λ (q : Rule). q.0.0 == n && test q) rs in
+    let parts = or_parts (r.0.0 == n) (list_any (λ (q : Rule). q.0.0 == n) rs) h in
+    ap (λ b. (b && test r) || later) parts.0 ∙ none_of rs n test parts.1
+
+pub unconcluded : (answered : RowId → List VarId → State) (row : RowId) (vars : List VarId) → has_rule row ≡ false → is_suppressed answered row vars ≡ false
+unconcluded answered row vars none = none_of rules row.0 (λ r. list_all (λ p. premise_fits answered p vars) r.1) none

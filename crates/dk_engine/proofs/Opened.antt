@@ -158,7 +158,7 @@ arity_some row = go (template_of row).takes
     go (Two a b) = omega arith
     go (Three a b c) = omega arith
 
-has_vars : (row : RowId) (infos : List VarInfo) (vars : List VarId) → IsTrue (admits row infos vars) → 0 < length vars
+pub has_vars : (row : RowId) (infos : List VarInfo) (vars : List VarId) → IsTrue (admits row infos vars) → 0 < length vars
 has_vars row infos vars a = let long = admitted_arity row infos vars a in let some = arity_some row in omega (arith, long, some)
 
 pub slots_have_leaders : (g : Grammar) (infos : List VarInfo) (kept : Kept) → CanBeFed g infos kept → All (λ (s : Slot). 0 < length s.leaders) kept.slots

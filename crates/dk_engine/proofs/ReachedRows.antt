@@ -1,13 +1,14 @@
--- The rows that a row reaches: those that it frees, and those that these reach.
-use Rattle.std.specs.Prelude.{◌≡◌, ◌<◌, ◌≤◌, ◌==◌, ℕ, Bool, true, All, Contains, List, [], length, map, nat_le, refl, slice_index_or}
+-- The rows that a row reaches: those that it frees, and those that these reach. Rows that rules conclude.
+use Rattle.std.specs.Prelude.{◌≡◌, ◌<◌, ◌≤◌, ◌==◌, ℕ, Bool, false, true, All, Contains, List, [], length, map, nat_le, refl, slice_index_or}
 use Rattle.std.specs.List.{list_all}
 use Rattle.std.proofs.Common.{ap, ◌∙◌, arith, get_or, inl, inr, subst, sym, Bor}
-use Rattle.std.proofs.lemmas.Bool.{cases_lt, eqb-true, leb-true}
+use Rattle.std.proofs.lemmas.Bool.{cases_lt, eqb-true, false_from_ne_true, leb-true}
 use Rattle.std.proofs.lemmas.List.{get_or-map, get_or_past, length-map}
+use Rattle.std.proofs.lemmas.List.FromFn.{get_or-map-range_with_len, length-map-range_with_len}
 use Rattle.std.proofs.lemmas.List.Elements.{All-contains, Contains-get_or}
 use Rattle.std.proofs.lemmas.List.Folds.{Any-from_list_any}
 use Rattle.std.proofs.lemmas.List.Sums.{AllPass-from_list_all}
-use Rattle.dk_suppress.specs.Rules.{Rule, freed, rules}
+use Rattle.dk_suppress.specs.Rules.{Rule, freed, has_rule, rules}
 use Rattle.dk_template.specs.Premises.{row_of}
 use Rattle.dk_template.specs.Templates.{IsRowOf}
 use Rattle.dk_template.specs.declared.answers.Premise.{Premise}
@@ -15,7 +16,7 @@ use Rattle.dk_template.specs.declared.grammar.Grammar.{Grammar}
 use Rattle.dk_template.specs.declared.grammar.Grammar.TheVariants as grammar
 use Rattle.dk_template.specs.declared.grammar.RowId.{RowId}
 use Rattle.dk_engine.proofs.PremiseSlots.{passes}
-use Rattle.dk_engine.specs.Reached.{has_row, reached_by_number, reached_from, rows_reached}
+use Rattle.dk_engine.specs.Reached.{concluded_by_number, has_row, reached_by_number, reached_from, rows_reached}
 use Rattle.dk_engine.specs.Step.{IsPremiseOf}
 
 -- ---- tests of a table
@@ -120,3 +121,30 @@ module _ (items : List (Bor (List RowId))) (known : map (λ r. r.now) items ≡ 
   pub reached_past : length items ≤ row.0 → rows_reached row ≡ []
   unfolding rows_reached
   reached_past past = get_or_past reached_by_number row.0 [] (subst (λ n. n ≤ row.0) (sym (length-map items (λ (r : Bor (List RowId)). r.now)) ∙ ap length known) past)
+
+-- ---- rows that rules conclude
+low_conclusions : list_all (λ (r : Rule). nat_le r.0.0 66) rules ≡ true
+unfolding rules
+low_conclusions = refl
+
+abbrev by_number : ℕ → Bool
+by_number n = has_rule (record { 0 = n })
+
+module _ (items : List Bool) (known : items ≡ concluded_by_number) (row : RowId) where
+  all_there : length items ≡ 67
+  unfolding concluded_by_number
+  all_there = ap length known ∙ length-map-range_with_len by_number 0 67
+
+  pub concluded_found : (found : Bool) → row.0 < length items → found ≡ slice_index_or items row.0 found → found ≡ has_rule row
+  unfolding concluded_by_number
+  concluded_found found within is =
+      let long = all_there in
+      is ∙ (ap (λ l. slice_index_or l row.0 found) known ∙ get_or-map-range_with_len by_number 0 67 row.0 row.0 found (omega (arith, within, long)) (omega arith))
+
+  pub concluded_past : length items ≤ row.0 → has_rule row ≡ false
+  concluded_past past = false_from_ne_true (has_rule row) (λ h.
+      let long = all_there in
+      let found = Any-from_list_any (λ (r : Rule). r.0.0 == row.0) rules h in
+      let same = eqb-true found.1.0.0 row.0 found.4 in
+      let low = leb-true found.1.0.0 66 (All-contains (λ (r : Rule). nat_le r.0.0 66 ≡ true) rules found.1 (AllPass-from_list_all (λ (r : Rule). nat_le r.0.0 66) rules low_conclusions) (found.0, found.2, found.3)) in
+      absurd (omega (arith, past, long, same, low)))

@@ -1,5 +1,5 @@
 -- The stepped slots are exactly those of the samples with one more.
-use Rattle.std.specs.Prelude.{◌≡◌, ◌≢◌, ◌<◌, ◌&&◌, ◌==◌, ℕ, zero, suc, true, false, All, Contains, IsTrue, List, [], ◌∷◌, ◌++◌, None, is_some, length, not, refl}
+use Rattle.std.specs.Prelude.{◌≡◌, ◌≢◌, ◌<◌, ◌&&◌, ◌==◌, ℕ, zero, suc, Bool, true, false, All, Contains, IsTrue, List, [], ◌∷◌, ◌++◌, None, is_some, length, not, refl}
 use Rattle.std.specs.List.{list_any}
 use Rattle.std.proofs.Common.{ap, arith, get_or, inl, inr, subst, sym, ◌∙◌}
 use Rattle.std.proofs.lemmas.Bool.{and_from, and_parts, cases_Bool, false_from_ne_true, not-true, or_parts, true≢false}
@@ -12,7 +12,7 @@ use Rattle.dk_base.specs.declared.values.Value.{Value}
 use Rattle.dk_fits.specs.Fits.{fit, premise_holds}
 use Rattle.dk_fits.proofs.Pushing.{fit_push, fit_stays_broken}
 use Rattle.dk_forms.specs.declared.states.State.TheVariants.{Broken}
-use Rattle.dk_suppress.specs.Rules.{Rule, asks, is_suppressed, rules}
+use Rattle.dk_suppress.specs.Rules.{Rule, asks, has_rule, is_suppressed, rules}
 use Rattle.dk_suppress.specs.Soundness.{fit_of}
 use Rattle.dk_template.specs.Admitted.{is_written}
 use Rattle.dk_template.specs.Premises.{premise_fits, row_of, suffices}
@@ -20,6 +20,7 @@ use Rattle.dk_template.specs.declared.answers.Premise.{Premise}
 use Rattle.dk_template.specs.Templates.{IsRow, rank_of}
 use Rattle.dk_template.specs.declared.grammar.Grammar.{Grammar}
 use Rattle.dk_template.specs.declared.grammar.RowId.{RowId}
+use Rattle.dk_engine.proofs.Closers.{unconcluded}
 use Rattle.dk_engine.proofs.Telling.{premise_told, suppressed_told}
 use Rattle.dk_engine.proofs.PremiseSlots.{asks_placed, long, premise_is_asked, rank_below, row_of_grammar, slot_all, slot_tells, usable}
 use Rattle.dk_engine.proofs.LostPremises.{about_no_elements, begun_premise_suppresses, broken_suffices_not, empty_alone_begins, lost_is_unsuppressed, lost_premise_frees}
@@ -29,7 +30,7 @@ use Rattle.dk_engine.specs.Exact.{IsOverLeaders, IsSlot}
 use Rattle.dk_engine.specs.Feeding.{with_sample}
 use Rattle.dk_engine.specs.Parts.{all_known, slot_at}
 use Rattle.dk_engine.specs.declared.kept.Kept.{Kept}
-use Rattle.dk_engine.specs.Step.{Answer, AreCandidates, IsLeftOf, IsStep, IsOpened, IsPlaced, IsSteppedSlot, Tells, asks_elements, can_close, is_empty_state, is_touched, slot_vars}
+use Rattle.dk_engine.specs.Step.{Answer, AreCandidates, IsLeftOf, IsStep, IsOpened, IsPlaced, IsSteppedSlot, Tells, asks_elements, can_close, is_empty_conclusion, is_empty_state, is_touched, slot_vars}
 use Rattle.dk_engine.specs.declared.now.Now.{Now}
 use Rattle.dk_engine.specs.StepLaws.{SteppedSlotsAreExact}
 use Rattle.dk_engine.specs.declared.slot.Slot.{Slot}
@@ -74,14 +75,24 @@ module _ {grammar : Grammar} {infos : List VarInfo} {samples : List (List Value)
   -- no rule begins to suppress a slot that can't close
   pub stays_open : (slot : Slot) → IsSlot grammar infos samples kept.leaders kept.known slot → can_close slot ≡ false → is_suppressed (fit_of more) slot.row slot.leaders ≡ false
   stays_open slot had shut =
-      let parts = or_parts (is_empty_state slot.state) (list_any (λ (r : Rule). r.0.0 == slot.row.0 && asks_elements r) rules) shut in
-      false_from_ne_true (is_suppressed (fit_of more) slot.row slot.leaders) (λ closed.
-      let begun = begun_premise_suppresses samples sample slot.row slot.leaders had.unsuppressed closed in
-      let p = begun.0 in
-      let can = usable grammar infos slot.leaders slot.row had.over.admitted p begun.1 in
-      let empty = empty_alone_begins slot.row (row_of_grammar grammar slot.row had.over.of_grammar) slot.leaders p can.formed (row_of_grammar grammar (row_of p) can.row) can.roles
-      (about_no_elements slot.row p begun.1 parts.1) samples sample begun.2 in
-      true≢false (sym (ap is_empty_state (had.state ∙ empty.1)) ∙ parts.0))
+      let parts = or_parts (is_empty_conclusion slot) (list_any (λ (r : Rule). r.0.0 == slot.row.0 && asks_elements r) rules) shut in
+      elim (cases_Bool (has_rule slot.row)) [
+        | inl has ↦ still_open parts.1 (full (is_empty_state slot.state) (has_rule slot.row) has parts.0)
+        | inr none ↦ unconcluded (fit_of more) slot.row slot.leaders none
+      ]
+    where
+      full : (a b : Bool) → b ≡ true → (a && b) ≡ false → a ≡ false
+      full false b is shut_too = refl
+      full true b is shut_too = absurd (true≢false (sym is ∙ shut_too))
+
+      still_open : list_any (λ (r : Rule). r.0.0 == slot.row.0 && asks_elements r) rules ≡ false → is_empty_state slot.state ≡ false → is_suppressed (fit_of more) slot.row slot.leaders ≡ false
+      still_open none filled = false_from_ne_true (is_suppressed (fit_of more) slot.row slot.leaders) (λ closed.
+          let begun = begun_premise_suppresses samples sample slot.row slot.leaders had.unsuppressed closed in
+          let p = begun.0 in
+          let can = usable grammar infos slot.leaders slot.row had.over.admitted p begun.1 in
+          let empty = empty_alone_begins slot.row (row_of_grammar grammar slot.row had.over.of_grammar) slot.leaders p can.formed (row_of_grammar grammar (row_of p) can.row) can.roles
+          (about_no_elements slot.row p begun.1 none) samples sample begun.2 in
+          true≢false (sym (ap is_empty_state (had.state ∙ empty.1)) ∙ filled))
 
   -- ---- a tuple without a slot before
   -- that isn't constant, broken or suppressed has a slot

@@ -129,7 +129,7 @@ module _ (g : Grammar) (infos : List VarInfo) (kept : Kept) (are : CanBeRead inf
       }
 
   -- ---- states
-  constants_proper : (row : RowId) (vars : List VarId) → IsRow row → admits row infos vars ≡ true → all_known kept.known vars ≡ true → IsProper (form_of row) (state_of_one row (known_tuple kept.known vars))
+  pub constants_proper : (row : RowId) (vars : List VarId) → IsRow row → admits row infos vars ≡ true → all_known kept.known vars ≡ true → IsProper (form_of row) (state_of_one row (known_tuple kept.known vars))
   constants_proper row vars is a k =
       let t = known_tuple kept.known vars in
       elim (is_whole t) as (λ b. is_whole t ≡ b → IsProper (form_of row) (if b then state_of row (t ∷ []) else state.Empty)) [

@@ -1,4 +1,5 @@
 -- Bounds of numbers and comparisons of two that a number, or two, leave as they are.
+use Rattle.dk_template.specs.Numbers as number
 use Rattle.std.specs.Prelude.{◌==◌, ℕ, ℤ, Bool, true, false, if◌then◌else◌, int_le, int_lt, not}
 use Rattle.std.specs.Ordering.{int_eq}
 use Rattle.dk_forms.specs.declared.states.State.{State}
@@ -18,6 +19,8 @@ abbrev pub is_holds : State → Bool
 is_holds Holds = true
 is_holds _ = false
 
--- what the row of this number, one of rows 11 to 14, says of two numbers
+-- what the row of this number, one from EqInt to Le, says of two numbers
 abbrev pub compares : ℕ → ℤ → ℤ → Bool
-compares n x y = if n == 13 then int_lt x y else (if n == 12 then not (int_eq x y) else (if n == 11 then int_eq x y else int_le x y))
+compares n x y =
+    if n == number.lt then int_lt x y
+    else (if n == number.ne_int then not (int_eq x y) else (if n == number.eq_int then int_eq x y else int_le x y))

@@ -11,6 +11,7 @@ use Rattle.dk_forms.specs.declared.states.State.{State}
 use Rattle.dk_forms.specs.declared.states.State.TheVariants.{Greatest, Least, Plane, Span, Straight}
 use Rattle.dk_grammar.specs.Runs.{with_sample}
 use Rattle.dk_samples.specs.Samples.{value_in}
+use Rattle.dk_template.specs.Numbers as number
 use Rattle.dk_engine.specs.Bounding.{compares}
 use Rattle.dk_engine.specs.Parts.{slot_in}
 use Rattle.dk_engine.specs.declared.facts.Compared.{Compared}
@@ -181,11 +182,11 @@ is_idle_straight ranges u v _ = false
 
 -- a number is equal to itself, and at most itself
 abbrev pub is_own : ℕ → VarId → VarId → Bool
-is_own n u v = u.0 == v.0 && (n == 11 || n == 14)
+is_own n u v = u.0 == v.0 && (n == number.eq_int || n == number.le)
 
 -- a comparison that needn't be listed
 abbrev pub is_told : List Range → List VarId → ℕ → VarId → VarId → Bool
-is_told ranges rising n u v = (is_own n u v && is_numeric ranges u) || (n == 13 && are_in_order rising u v)
+is_told ranges rising n u v = (is_own n u v && is_numeric ranges u) || (n == number.lt && are_in_order rising u v)
 
 -- all facts are true of the sample
 abbrev pub meets : Watch → List Value → Bool

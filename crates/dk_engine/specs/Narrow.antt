@@ -11,6 +11,7 @@ use Rattle.dk_forms.specs.declared.states.State.{State}
 use Rattle.dk_forms.specs.declared.states.State.TheVariants.{Broken, Span}
 use Rattle.dk_presence.specs.Patterns.{pattern_count, present_in}
 use Rattle.dk_suppress.specs.Rules.{Rule, is_suppressed, rules}
+use Rattle.dk_template.specs.Numbers as number
 use Rattle.dk_template.specs.Premises.{row_of, suffices}
 use Rattle.dk_template.specs.declared.grammar.Grammar.{Grammar}
 use Rattle.dk_template.specs.declared.grammar.RowId.{RowId}
@@ -96,7 +97,7 @@ grown_state slot growth = prolonged slot.state growth.x growth.y growth.z
 -- a growth by which the slot at a place, of the row of planes, gets the state that is made of it
 pub record IsGrown (slot : Slot) (made : State) (place : ℕ) (growth : Growth) : Type 0 where
   pub at : growth.place ≡ place
-  pub row : slot.row.0 ≡ 67
+  pub row : slot.row.0 ≡ number.linear_ternary
   pub unbroken : slot.state ≢ Broken
   pub state : grown_state slot growth ≡ made
 
@@ -116,7 +117,7 @@ with_growth slots growth = with_change slots (change_by slots growth)
 
 -- its slot isn't Broken, and of the row of planes, about which no rule asks
 pub record IsGrowth (slots : List Slot) (growth : Growth) : Type 0 where
-  pub row : (slot_in slots growth.place).row.0 ≡ 67
+  pub row : (slot_in slots growth.place).row.0 ≡ number.linear_ternary
   pub unbroken : (slot_in slots growth.place).state ≢ Broken
 
 -- the growths that are found as changes, and the changes

@@ -1,8 +1,9 @@
--- Which rows a row frees, by itself and through others.
+-- Which rows a row frees, by itself and through others, and which rows rules conclude.
 use Rattle.std.specs.Prelude.{◌==◌, ◌++◌, Bool, List, [], filter, flat_map, map, slice_index_or}
 use Rattle.std.specs.List.{list_any, range_with_len}
 use Rattle.dk_fits.specs.Instances.{rows_of}
-use Rattle.dk_suppress.specs.Rules.{freed}
+use Rattle.dk_suppress.specs.Rules.{freed, has_rule}
+use Rattle.dk_template.specs.Numbers as number
 use Rattle.dk_template.specs.declared.grammar.Grammar.TheVariants as grammar
 use Rattle.dk_template.specs.declared.grammar.RowId.{RowId}
 
@@ -22,9 +23,13 @@ with_freed rows = rows ++ flat_map freed rows
 unfoldable pub reached_from : RowId → List RowId
 reached_from row = in_order (with_freed (with_freed (freed row)))
 
--- of the rows 0 to 66; no premise is about a later row
+-- of each number below that of planes; no premise is about planes or a later row
 unfoldable pub reached_by_number : List (List RowId)
-reached_by_number = map (λ n. reached_from (record { 0 = n })) (range_with_len 0 67)
+reached_by_number = map (λ n. reached_from (record { 0 = n })) (range_with_len 0 number.linear_ternary)
 
 unfoldable pub rows_reached : RowId → List RowId
 rows_reached row = slice_index_or reached_by_number row.0 []
+
+-- whether a rule concludes the rows 0 to 66; none concludes a later row
+unfoldable pub concluded_by_number : List Bool
+concluded_by_number = map (λ n. has_rule (record { 0 = n })) (range_with_len 0 67)

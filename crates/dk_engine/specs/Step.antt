@@ -12,9 +12,10 @@ use Rattle.dk_fits.specs.Fits.{fit}
 use Rattle.dk_forms.specs.declared.states.State.{State}
 use Rattle.dk_forms.specs.declared.states.State.TheVariants.{Broken, Empty}
 use Rattle.dk_presence.specs.Patterns.{pattern_count, present_in}
-use Rattle.dk_suppress.specs.Rules.{Rule, asks, is_suppressed, rules}
+use Rattle.dk_suppress.specs.Rules.{Rule, asks, has_rule, is_suppressed, rules}
 use Rattle.dk_template.specs.Admitted.{admits, is_written}
 use Rattle.dk_template.specs.Exchange.{written_order}
+use Rattle.dk_template.specs.Numbers as number
 use Rattle.dk_template.specs.Premises.{premise_fits, row_of, suffices, vars_of}
 use Rattle.dk_template.specs.Templates.{IsRowOf, rank_of}
 use Rattle.dk_template.specs.declared.answers.Premise.{Premise}
@@ -137,15 +138,18 @@ is_empty_state _ = false
 
 -- the rows of the least and the greatest element, which are Empty also of sequences that are there and have no elements
 abbrev pub is_of_elements : RowId → Bool
-is_of_elements row = row.0 == 36 || row.0 == 37
+is_of_elements row = row.0 == number.elt_lower || row.0 == number.elt_upper
 
 abbrev pub asks_elements : Rule → Bool
 asks_elements r = list_any (λ p. is_of_elements (row_of p)) r.1
 
--- A rule can begin to suppress the slot: it was Empty, or its row has a rule that asks for the least or the greatest element. That
--- is row 38 alone.
+-- A rule can begin to suppress the slot: it was Empty and its row has a rule, or its row has one that asks for the least or the
+-- greatest element. That is EltNonZero alone.
+abbrev pub is_empty_conclusion : Slot → Bool
+is_empty_conclusion slot = is_empty_state slot.state && has_rule slot.row
+
 abbrev pub can_close : Slot → Bool
-can_close slot = is_empty_state slot.state || list_any (λ (r : Rule). r.0.0 == slot.row.0 && asks_elements r) rules
+can_close slot = is_empty_conclusion slot || list_any (λ (r : Rule). r.0.0 == slot.row.0 && asks_elements r) rules
 
 -- over the variables of a slot another slot, of the least or the greatest element, which was Empty and isn't with the sample
 pub record IsBegunBound (slots : List Slot) (sample : List Value) (slot bound : Slot) : Type 0 where

@@ -1,16 +1,15 @@
 // What is read with one sample more.
-ghost use Rattle.std.specs.Prelude.{◌≡◌, ◌∷◌, [], true, if◌then◌else◌, IfOk, IsTrue, OnErr};
+ghost use Rattle.std.specs.Prelude.{◌≡◌, ◌↔◌, ◌∷◌, [], true, if◌then◌else◌, IfOk, IsTrue, OnErr};
 ghost use Rattle.dk_base.specs.Values.{values_of};
 ghost use Rattle.dk_fits.specs.Fits.{is_whole, tuple_in};
 ghost use Rattle.dk_fits.specs.Laws.{IsSample};
-ghost use Rattle.dk_forms.specs.declared.states.State.{State as RowState};
 ghost use Rattle.dk_forms.specs.declared.states.State.TheVariants.{Broken};
 ghost use Rattle.dk_rows.specs.Meanings.{state_of};
 ghost use Rattle.dk_template.specs.Admitted.{admits};
 ghost use Rattle.dk_template.specs.Joins.{joined};
 ghost use Rattle.dk_template.specs.Proper.{IsProper};
 ghost use Rattle.dk_template.specs.Rows.{IsTuple};
-ghost use Rattle.dk_template.specs.Templates.{IsRow, IsRowOf, form_of, role_kinds};
+ghost use Rattle.dk_template.specs.Templates.{IsRow, IsRowOf, form_of, is_plain, role_kinds};
 ghost use Rattle.dk_engine.specs.Feeding.{agree_after, count_after, read_after, with_sample};
 ghost use Rattle.dk_engine.specs.Memory.{wants_memory};
 ghost use Rattle.dk_engine.specs.Reading.{state_read};
@@ -24,6 +23,14 @@ use dk_samples::{is_present, value_at};
 use dk_template::{Answers, RowId, State, info, join_states, template_at};
 use std::alloc::Global;
 use std::marker::Model;
+
+// Whether the row has a relation.
+fn is_plain(row: RowId) -> bool
+    requires { IsRow row }
+    ensures { result ≡ is_plain (form_of row) }
+{
+    info(row).plain
+}
 
 // Whether no value of the tuple is missing.
 fn are_present(tuple: &[View<'_>]) -> bool
@@ -64,7 +71,7 @@ fn tuple_stays(row: RowId, state: &State, tuple: &[View<'_>]) -> bool
     requires row { IsRow row }
     requires state { IsProper (form_of row) state.now }
     requires tuple { is_whole (values_of tuple.now) ≡ true → IsTuple (role_kinds row) (values_of tuple.now) }
-    ensures { IsTrue result → (if is_whole (values_of tuple.now) then joined (form_of row) state.now (state_of row (values_of tuple.now ∷ [])) else state.now) ≡ state.now }
+    ensures { IsTrue result ↔ ((if is_whole (values_of tuple.now) then joined (form_of row) state.now (state_of row (values_of tuple.now ∷ [])) else state.now) ≡ state.now) }
 {
     !are_present(tuple) || stays(row, state, tuple)
 }
@@ -113,14 +120,14 @@ impl<'a> After<'a> {
         engine.kept.slots.ends()
     }
 
-    /// The variables.
+    /// The variables of the point.
     pub(crate) fn infos(&self) -> &[VarInfo]
         ensures { result.now ≡ self.now.whole.infos }
     {
         self.engine.vars()
     }
 
-    /// The sample.
+    /// The sample that came.
     pub(crate) fn sample(&self) -> &[View<'_>]
         ensures sample { values_of result.now ≡ self.now.sample }
         ensures sampled { IsSample self.now.whole.infos self.now.sample }
@@ -180,18 +187,29 @@ impl<'a> After<'a> {
         }
     }
 
-    // Whether the sample's tuple breaks the row, which has a relation, whatever its state was.
-    fn breaks(&self, row: RowId, vars: &[VarId]) -> Result<bool, NoMemory>
+    /// Whether the sample's tuple breaks the row, which has a relation, whatever its state was.
+    pub(crate) fn breaks(&self, row: RowId, vars: &[VarId]) -> bool
         requires row { IsRowOf self.now.whole.grammar row }
         requires vars { IsTrue (admits row self.now.whole.infos vars.now) }
-        ensures breaks { IfOk result (λ b. IsTrue b → (s : RowState) → with_sample row vars.now self.now.sample s ≡ Broken) }
+        ensures { IsTrue result → read_after self.now.whole.kept self.now.sample row vars.now ≡ Broken }
+    {
+        if is_plain(row) {
+            !self.state_stays(row, vars, &State::Holds)
+        } else {
+            false
+        }
+    }
+
+    /// The state of a row over variables, which the sample mostly doesn't break.
+    pub(crate) fn unbroken_state(&self, row: RowId, vars: &[VarId]) -> Result<State, NoMemory>
+        requires row { IsRowOf self.now.whole.grammar row }
+        requires vars { IsTrue (admits row self.now.whole.infos vars.now) }
+        ensures state { IfOk result (λ s. s ≡ read_after self.now.whole.kept self.now.sample row vars.now) }
+        ensures proper { IfOk result (λ s. IsProper (form_of row) s) }
         ensures err { OnErr result (IsTrue (wants_memory row)) }
     {
-        if !info(row).plain {
-            return Ok(false);
-        }
-        let state = self.with_sample(row, vars, State::Empty)?;
-        Ok(matches!(state, State::Broken))
+        let before = self.engine.state(row, vars)?;
+        self.with_sample(row, vars, before)
     }
 
     /// The state of a row over variables. Where the sample breaks it, what it was isn't looked at.
@@ -202,11 +220,10 @@ impl<'a> After<'a> {
         ensures proper { IfOk result (λ s. IsProper (form_of row) s) }
         ensures err { OnErr result (IsTrue (wants_memory row)) }
     {
-        if self.breaks(row, vars)? {
+        if self.breaks(row, vars) {
             return Ok(State::Broken);
         }
-        let before = self.engine.state(row, vars)?;
-        self.with_sample(row, vars, before)
+        self.unbroken_state(row, vars)
     }
 
     /// A slot's state with the sample.
@@ -230,7 +247,7 @@ impl<'a> After<'a> {
         requires vars { IsTrue (admits row self.now.whole.infos vars.now) }
         requires proper { IsProper (form_of row) state.now }
         requires tuple { values_of tuple.now ≡ tuple_in vars.now self.now.sample }
-        ensures { IsTrue result → with_sample row vars.now self.now.sample state.now ≡ state.now }
+        ensures { IsTrue result ↔ (with_sample row vars.now self.now.sample state.now ≡ state.now) }
     {
         tuple_stays(row, state, tuple)
     }
@@ -240,7 +257,7 @@ impl<'a> After<'a> {
         requires row { IsRowOf self.now.whole.grammar row }
         requires vars { IsTrue (admits row self.now.whole.infos vars.now) }
         requires proper { IsProper (form_of row) state.now }
-        ensures { IsTrue result → with_sample row vars.now self.now.sample state.now ≡ state.now }
+        ensures { IsTrue result ↔ (with_sample row vars.now self.now.sample state.now ≡ state.now) }
     {
         let sample = self.sample;
         match vars {

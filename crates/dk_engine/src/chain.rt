@@ -11,6 +11,7 @@ use crate::operations::number_at;
 use crate::staying::holds;
 use dk_base::{NoMemory, VarId, View};
 use dk_samples::value_at;
+use dk_template::rows;
 use std::alloc::Global;
 
 // Whether a number is greater than the last one, if there is one.
@@ -80,9 +81,6 @@ pub(crate) fn are_rising(sample: &[View<'_>], rising: &[VarId]) -> bool
     true
 }
 
-// The row of the comparison that says that one number is less than another.
-const LESS: u8 = 13;
-
 /// Variables in the order in which their numbers rise, and by a variable's number at which place it stands among them.
 #[derive(Drop)]
 pub(crate) struct Chain {
@@ -104,7 +102,7 @@ pub(crate) fn are_in_order(rising: &[VarId], places: &[usize], u: VarId, v: VarI
 
 // The two variables of which a slot says that the first's number is less.
 fn less_in(slot: &Slot) -> Option<(VarId, VarId)> {
-    if slot.row.0 != LESS || !holds(&slot.state) {
+    if slot.row.0 != rows::LT || !holds(&slot.state) {
         return None;
     }
     match slot.leaders.as_slice() {

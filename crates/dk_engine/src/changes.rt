@@ -10,16 +10,17 @@ ghost use Rattle.dk_engine.specs.Feeding.{read_after, with_sample};
 ghost use Rattle.dk_engine.specs.Idle.{PassesStill};
 ghost use Rattle.dk_engine.specs.Narrow.{AreFound, AreFoundBelow, StateStays, closes, is_in_run, loses, loses_by, lost_places, may_begin, outcome};
 ghost use Rattle.dk_engine.specs.Parts.{slot_in};
-ghost use Rattle.dk_engine.specs.Step.{IsPlaced, can_close, is_empty_state, is_of_elements};
+ghost use Rattle.dk_engine.specs.Step.{IsPlaced, can_close, is_empty_conclusion, is_empty_state, is_of_elements};
 
 use crate::Slot;
 use crate::after::After;
 use crate::growing::{Growth, Seen, seen_with};
+use crate::reaching::is_concluded;
 use crate::runs::{passed_to, run_end, still_to};
 use crate::staying::is_of_bounds_or_comparisons;
 use dk_base::{List, NoMemory, View};
 use dk_suppress::{asked_of, suppressed};
-use dk_template::{RowId, State, suffices_for};
+use dk_template::{RowId, State, rows, suffices_for};
 use std::alloc::Global;
 
 /// A slot's place with the state that a sample makes of it; one that goes is Broken.
@@ -43,11 +44,18 @@ fn is_empty(state: &State) -> bool
     matches!(state, State::Empty)
 }
 
-// Whether a rule can begin to suppress the slot: it was Empty, or it asks for the least or the greatest element.
+// Whether the slot was Empty and a rule concludes its row.
+fn is_empty_conclusion(slot: &Slot) -> bool
+    ensures { result ≡ is_empty_conclusion slot.now }
+{
+    is_empty(&slot.state) && is_concluded(slot.row)
+}
+
+// Whether a rule can begin to suppress the slot: it was Empty and its row has a rule, or it asks for the least or the greatest element.
 pub(crate) fn can_close(slot: &Slot) -> bool
     ensures { result ≡ can_close slot.now }
 {
-    is_empty(&slot.state) || slot.row.0 == 38
+    is_empty_conclusion(slot) || slot.row.0 == rows::ELT_NON_ZERO
 }
 
 // Whether a rule begins to suppress the slot.
@@ -124,7 +132,7 @@ fn make_room<T: Drop>(alloc: Global, room: usize, list: &mut List<T>) -> Result<
     Ok(())
 }
 
-// With a growth.
+// Puts a growth behind the others.
 fn push_growth(alloc: Global, growth: Growth, growths: &mut List<Growth>) -> Result<(), NoMemory>
     ensures { OnOk result (growths.new ≡ growths.old ++ growth ∷ []) }
 {
@@ -209,7 +217,7 @@ fn add_seen(
 
 // Whether the slots of a row are looked at one by one: bounds and comparisons, and planes where some of them are passed over.
 fn are_looked_at(row: RowId, skips: &[usize]) -> bool {
-    is_of_bounds_or_comparisons(row) || row.0 == 67 && !skips.is_empty()
+    is_of_bounds_or_comparisons(row) || row.0 == rows::LINEAR_TERNARY && !skips.is_empty()
 }
 
 // With the changes of a run of slots, from a place up to another, behind those of the slots in front of it.
@@ -390,7 +398,7 @@ fn may_begin(slots: &[Slot], change: &Change) -> bool
     ensures { result ≡ may_begin slots.now change.now }
 {
     let slot = &slots[change.place];
-    is_empty(&slot.state) && (slot.row.0 == 36 || slot.row.0 == 37)
+    is_empty(&slot.state) && (slot.row.0 == rows::ELT_LOWER || slot.row.0 == rows::ELT_UPPER)
 }
 
 /// Whether it may by one of the changes.

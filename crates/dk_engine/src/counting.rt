@@ -2,11 +2,10 @@
 ghost use Rattle.std.specs.Prelude.{◌<◌, All, length};
 
 use crate::reaching::rows_reached;
-use crate::suited::suits;
 use crate::touching::touches;
 use crate::{Now, Slot};
 use dk_base::{Kind, VarId, VarInfo};
-use dk_template::Role;
+use dk_template::{Role, suits};
 
 // The rows of two numbers, which may be derived, and those of three base numbers.
 const PAIR_ROWS: u64 = 5;
@@ -27,7 +26,7 @@ struct Sizes {
 }
 
 impl Sizes {
-    // Of no leaders.
+    // The sizes of no leaders.
     fn none() -> Sizes {
         Sizes {
             leaders: 0,
@@ -57,7 +56,7 @@ impl Sizes {
     }
 }
 
-// Of these leaders.
+// How many of these leaders are of each kind.
 fn sizes_of(infos: &[VarInfo], leaders: &[VarId]) -> Sizes {
     let mut sizes = Sizes::none();
     for v in leaders {

@@ -35,7 +35,7 @@ fn end_at(ends: &[usize], slots: &[Slot], place: usize) -> usize
     }
 }
 
-// It is noted.
+// Notes where the stretch in the slot at this place ends.
 fn note_end(ends: &mut [usize], slots: &[Slot], place: usize)
     requires { place < length slots.now }
 {

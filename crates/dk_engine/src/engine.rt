@@ -1,10 +1,10 @@
 // The engine of a point.
-ghost use Rattle.std.specs.Prelude.{◌≡◌, ◌↔◌, ◌<◌, ◌≤◌, suc, [], IfOk, IfSome, IsTrue, List, OnErr, length};
+ghost use Rattle.std.specs.Prelude.{◌≡◌, ◌↔◌, ◌<◌, ◌≤◌, suc, true, [], IfOk, IfSome, IsTrue, List, OnErr, length};
 ghost use Rattle.dk_base.specs.Values.{values_of};
 ghost use Rattle.dk_base.specs.declared.kinds.VarId.{VarId};
 ghost use Rattle.dk_base.specs.declared.kinds.VarInfo.{VarInfo};
 ghost use Rattle.dk_classes.specs.Leaders.{own_leaders};
-ghost use Rattle.dk_template.specs.Admitted.{admits};
+ghost use Rattle.dk_template.specs.Admitted.{admits, is_written};
 ghost use Rattle.dk_template.specs.Premises.{AreThere};
 ghost use Rattle.dk_template.specs.Proper.{IsProper};
 ghost use Rattle.dk_template.specs.Templates.{IsRowOf, form_of};
@@ -12,10 +12,11 @@ ghost use Rattle.dk_template.specs.declared.grammar.Grammar.{Grammar};
 ghost use Rattle.dk_engine.specs.Conditions.{CanBeFed};
 ghost use Rattle.dk_engine.specs.Exact.{AreOfKinds, AreOfPoint, IsKeptOf};
 ghost use Rattle.dk_engine.specs.Memory.{wants_memory};
-ghost use Rattle.dk_engine.specs.Parts.{leaders_of};
-ghost use Rattle.dk_engine.specs.Reading.{agree_read, count_read, read_leaders, state_read};
+ghost use Rattle.dk_engine.specs.Parts.{all_known, leaders_of};
+ghost use Rattle.dk_engine.specs.Reading.{agree_read, count_read, rank_bound, read_leaders, state_read};
 
 use crate::bitmaps::Bitmaps;
+use crate::constant::{are_known, constant_state};
 use crate::nothing::Nothing;
 use crate::over::Over;
 use crate::taking::are_of_kinds;
@@ -24,7 +25,7 @@ use dk_base::{List, NoMemory, VarId, VarInfo, View};
 use dk_classes::Classes;
 use dk_constants::Constants;
 use dk_presence::Presence;
-use dk_template::{Answers, Grammar, RowId, State, Tuple};
+use dk_template::{Answers, Grammar, RowId, State, Tuple, is_written};
 use std::alloc::Global;
 use std::marker::Model;
 
@@ -75,14 +76,14 @@ impl Engine {
         })
     }
 
-    /// Its grammar.
+    /// The grammar by which the engine was made.
     pub fn grammar(&self) -> Grammar
         ensures { result ≡ self.now.grammar }
     {
         self.grammar
     }
 
-    /// Its variables.
+    /// The variables of the engine's point.
     pub fn vars(&self) -> &[VarInfo]
         ensures { result.now ≡ self.now.infos }
     {
@@ -136,7 +137,7 @@ impl Engine {
         &self.kept.held
     }
 
-    /// The constant leaders.
+    /// The leaders that have had one value so far, with it.
     pub fn constants(&self) -> &Constants
         ensures { result.now ≡ self.now.kept.known }
     {
@@ -191,18 +192,23 @@ impl Engine {
         }
     }
 
-    /// The state of a row over variables, told without memory but for the rows that want it.
-    pub(crate) fn state(&self, row: RowId, vars: &[VarId]) -> Result<State, NoMemory>
+    // Whether the leaders are constant, and in the row's written order.
+    fn are_written_constants(&self, row: RowId, leaders: &[VarId]) -> bool
+        requires { IsRowOf self.now.grammar row }
+        ensures written { IsTrue result → IsTrue (is_written row leaders.now) }
+        ensures known { IsTrue result → all_known self.now.kept.known leaders.now ≡ true }
+    {
+        is_written(row, leaders) && are_known(&self.kept.known, leaders)
+    }
+
+    // The state of a row over leaders in any order.
+    fn state_of_leaders(&self, row: RowId, leaders: &[VarId]) -> Result<State, NoMemory>
         requires row { IsRowOf self.now.grammar row }
-        requires vars { IsTrue (admits row self.now.infos vars.now) }
-        ensures state { IfOk result (λ s. s ≡ state_read self.now.kept row vars.now) }
+        requires leaders { IsTrue (admits row self.now.infos leaders.now) }
+        ensures state { IfOk result (λ s. s ≡ read_leaders rank_bound self.now.kept row leaders.now) }
         ensures proper { IfOk result (λ s. IsProper (form_of row) s) }
         ensures err { OnErr result (IsTrue (wants_memory row)) }
     {
-        if self.kept.samples == 0 {
-            return Ok(State::Empty);
-        }
-        let leaders = self.leaders_of(vars);
         let lowest = self.over(
             None,
             0,
@@ -213,7 +219,26 @@ impl Engine {
             },
         );
         let levels = self.over(None, 3, self.over(None, 2, self.over(None, 1, lowest)));
-        levels.state(row, leaders.as_slice())
+        levels.state(row, leaders)
+    }
+
+    /// The state of a row over variables, told without memory but for the rows that want it. Of constants no slot is sought.
+    pub(crate) fn state(&self, row: RowId, vars: &[VarId]) -> Result<State, NoMemory>
+        requires row { IsRowOf self.now.grammar row }
+        requires vars { IsTrue (admits row self.now.infos vars.now) }
+        ensures state { IfOk result (λ s. s ≡ state_read self.now.kept row vars.now) }
+        ensures proper { IfOk result (λ s. IsProper (form_of row) s) }
+        ensures err { OnErr result (IsTrue (wants_memory row)) }
+    {
+        if self.kept.samples == 0 {
+            return Ok(State::Empty);
+        }
+        let tuple = self.leaders_of(vars);
+        let leaders = tuple.as_slice();
+        if self.are_written_constants(row, leaders) {
+            return constant_state(self.alloc, &self.kept.known, row, leaders);
+        }
+        self.state_of_leaders(row, leaders)
     }
 }
 

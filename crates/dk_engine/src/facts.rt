@@ -2,6 +2,7 @@
 ghost use Rattle.std.specs.Prelude.{◌≡◌, ◌==◌, ◌&&◌, true, IsTrue, int_le};
 ghost use Rattle.dk_base.specs.Values.{value_of, values_of};
 ghost use Rattle.dk_engine.specs.Idle.{are_in_order, are_near, are_so, are_within, compares_first, compares_values, is_above, is_below, is_between, is_compared, is_from, is_listed, is_near, is_numeric, is_one, is_own, is_so, is_to, is_told, is_within};
+ghost use Rattle.dk_template.specs.Numbers as number;
 
 use crate::Slot;
 use crate::chain::{Chain, are_in_order};
@@ -12,7 +13,7 @@ use crate::operations::number_at;
 use crate::staying::{holds, is_so};
 use dk_base::{NoMemory, VarId, View};
 use dk_samples::value_at;
-use dk_template::{RowId, State};
+use dk_template::{RowId, State, rows};
 use std::alloc::Global;
 
 /// A variable whose number is from the least to the greatest, or missing.
@@ -23,7 +24,7 @@ pub(crate) struct Range {
     pub(crate) greatest: i64,
 }
 
-/// A row of a comparison, one of rows 11 to 14, and two variables of whose numbers it is so, or one of which is missing.
+/// A row of a comparison, one from EqInt to Le, and two variables of whose numbers it is so, or one of which is missing.
 #[derive(Clone, Copy, Debug)]
 pub(crate) struct Compared {
     pub(crate) row: RowId,
@@ -166,7 +167,7 @@ fn is_one(range: &Range, v: VarId, d: i128) -> bool
     range.var.0 == v.0 && (range.least == range.greatest && d == -(range.least as i128))
 }
 
-// Whether they are.
+// Whether the bounds are those of this variable.
 fn is_of_var(range: &Range, v: VarId) -> bool
     ensures { result ≡ (range.now.var.0 == v.0 && true) }
 {
@@ -315,7 +316,7 @@ impl Ranges {
 fn is_own(row: RowId, u: VarId, v: VarId) -> bool
     ensures { result ≡ is_own row.0 u v }
 {
-    u.0 == v.0 && (row.0 == 11 || row.0 == 14)
+    u.0 == v.0 && (row.0 == rows::EQ_INT || row.0 == rows::LE)
 }
 
 // Whether it is so of a variable that has numbers.
@@ -327,9 +328,9 @@ fn is_own_number(ranges: &[Range], places: &[usize], row: RowId, u: VarId, v: Va
 
 // Whether it says that the first of two is less, and they are among those whose numbers rise.
 fn is_in_chain(rising: &[VarId], places: &[usize], row: RowId, u: VarId, v: VarId) -> bool
-    ensures { IsTrue result → (row.0 == 13 && are_in_order rising.now u v) ≡ true }
+    ensures { IsTrue result → (row.0 == number.lt && are_in_order rising.now u v) ≡ true }
 {
-    row.0 == 13 && are_in_order(rising, places, u, v)
+    row.0 == rows::LT && are_in_order(rising, places, u, v)
 }
 
 /// Whether the comparison of this row of these two is seen to be told by other facts than comparisons.
@@ -349,7 +350,7 @@ pub(crate) fn is_told(
 
 // The comparison that a slot says to be so.
 fn compared_in(slot: &Slot) -> Option<Compared> {
-    if slot.row.0 < 11 || 14 < slot.row.0 || !holds(&slot.state) {
+    if slot.row.0 < rows::EQ_INT || rows::LE < slot.row.0 || !holds(&slot.state) {
         return None;
     }
     match slot.leaders.as_slice() {

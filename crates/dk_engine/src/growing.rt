@@ -10,6 +10,7 @@ ghost use Rattle.dk_template.specs.Proper.{IsProper};
 ghost use Rattle.dk_template.specs.Templates.{form_of};
 ghost use Rattle.dk_engine.specs.Feeding.{with_sample};
 ghost use Rattle.dk_engine.specs.Narrow.{IsSeen, grown_state, may_stay, prolonged, with_state};
+ghost use Rattle.dk_template.specs.Numbers as number;
 
 use crate::Slot;
 use crate::operations::number_at;
@@ -17,7 +18,7 @@ use crate::staying::is_seen_to_stay;
 use dk_base::{VarId, View};
 use dk_forms::{distance, plane_stays, same_products};
 use dk_samples::{is_present, value_at};
-use dk_template::State;
+use dk_template::{State, rows};
 
 /// A stretch of a line in the slot at a place, with the point at which it ends then.
 #[derive(Clone, Copy, Debug)]
@@ -181,14 +182,14 @@ pub(crate) enum Seen {
     Stays,
     /// The slot is a stretch of a line, which ends at the sample's point then.
     Grows(Growth),
-    /// Neither is seen.
+    /// It isn't seen whether the slot stays or grows.
     Neither,
 }
 
-// What a point makes of a slot of row 67, which is a plane or a stretch of a line.
+// What a point makes of a slot of LinearTernary, which is a plane or a stretch of a line.
 #[inline(always)]
 fn seen_at(slot: &Slot, growth: Growth) -> Seen
-    requires row { slot.now.row.0 ≡ 67 }
+    requires row { slot.now.row.0 ≡ number.linear_ternary }
     requires proper { IsProper (form_of slot.now.row) slot.now.state }
     ensures { IsSeen slot.now (plane_join slot.now.state (plane_of ((growth.x, growth.y, growth.z) ∷ []))) growth.place result }
 {
@@ -213,10 +214,10 @@ fn are_present(sample: &[View<'_>], u: VarId, v: VarId, w: VarId) -> bool
         && (is_present(value_at(sample, v)) && is_present(value_at(sample, w)))
 }
 
-// What a sample makes of a slot of row 67 over three leaders. It stays as it is where one of them is missing.
+// What a sample makes of a slot of LinearTernary over three leaders. It stays as it is where one of them is missing.
 #[inline(always)]
 fn seen_by(slot: &Slot, sample: &[View<'_>], place: usize, u: VarId, v: VarId, w: VarId) -> Seen
-    requires row { slot.now.row.0 ≡ 67 }
+    requires row { slot.now.row.0 ≡ number.linear_ternary }
     requires leaders { slot.now.leaders ≡ u ∷ v ∷ w ∷ [] }
     requires proper { IsProper (form_of slot.now.row) slot.now.state }
     ensures { IsSeen slot.now (with_sample slot.now.row slot.now.leaders (values_of sample.now) slot.now.state) place result }
@@ -256,7 +257,7 @@ pub(crate) fn seen_with(slot: &Slot, sample: &[View<'_>], place: usize) -> Seen
     requires { IsProper (form_of slot.now.row) slot.now.state }
     ensures { IsSeen slot.now (with_sample slot.now.row slot.now.leaders (values_of sample.now) slot.now.state) place result }
 {
-    if slot.row.0 != 67 {
+    if slot.row.0 != rows::LINEAR_TERNARY {
         return seen_of_another(slot, sample, place);
     }
     match slot.leaders.as_slice() {

@@ -7,6 +7,7 @@ ghost use Rattle.std.specs.Prelude.{◌≡◌, ◌<◌, ◌≤◌, ◌+◌, ◌=
 ghost use Rattle.std.specs.Ordering.{int_eq};
 ghost use Rattle.dk_base.specs.Values.{values_of};
 ghost use Rattle.dk_engine.specs.Idle.{AreNotes, AreSkips, IsIdle, are_fixed, are_near_each, are_same, is_above, is_axis, is_below, is_compared, is_diagonal, is_driven, is_driven_stretch, is_fixed, is_idle_greatest, is_idle_least, is_idle_over, is_idle_straight, is_near, is_near_number, is_passed, is_told, later, meets, skip_in};
+ghost use Rattle.dk_template.specs.Numbers as number;
 
 use crate::Slot;
 use crate::chain::{Chain, are_rising};
@@ -20,7 +21,7 @@ use crate::moves::Moves;
 use crate::noted::place_of;
 use crate::staying::holds;
 use dk_base::{NoMemory, VarId, View};
-use dk_template::{RowId, State};
+use dk_template::{RowId, State, rows};
 use std::alloc::Global;
 
 /// What a sample is asked before slots are passed over: whether these variables have numbers within their bounds, the numbers of these rise,
@@ -169,9 +170,9 @@ fn are_near_each(ranges: &[Range], places: &[usize], u: VarId, v: VarId, w: VarI
         && (is_known_near(ranges, places, v) && is_known_near(ranges, places, w))
 }
 
-// Whether a slot of row 67 over three leaders, a plane, is seen to be idle.
+// Whether a slot of LinearTernary over three leaders, a plane, is seen to be idle.
 fn is_idle_by(watch: &Watch, places: &[usize], slot: &Slot, u: VarId, v: VarId, w: VarId) -> bool
-    requires row { slot.now.row.0 ≡ 67 }
+    requires row { slot.now.row.0 ≡ number.linear_ternary }
     requires leaders { slot.now.leaders ≡ u ∷ v ∷ w ∷ [] }
     ensures { IsTrue result → IsIdle watch.now slot.now }
 {
@@ -286,7 +287,7 @@ fn is_driven_stretch(
     }
 }
 
-// Whether a slot of row 67 over three leaders, a stretch, is seen to be idle.
+// Whether a slot of LinearTernary over three leaders, a stretch, is seen to be idle.
 fn is_idle_stretch(
     watch: &Watch,
     places: &[usize],
@@ -295,7 +296,7 @@ fn is_idle_stretch(
     v: VarId,
     w: VarId,
 ) -> bool
-    requires row { slot.now.row.0 ≡ 67 }
+    requires row { slot.now.row.0 ≡ number.linear_ternary }
     requires leaders { slot.now.leaders ≡ u ∷ v ∷ w ∷ [] }
     ensures { IsTrue result → IsIdle watch.now slot.now }
 {
@@ -326,9 +327,9 @@ fn is_idle_straight(ranges: &[Range], places: &[usize], u: VarId, v: VarId, stat
     }
 }
 
-// Whether a slot of row 15 over two leaders is seen to be idle.
+// Whether a slot of Linear over two leaders is seen to be idle.
 fn is_idle_line(watch: &Watch, places: &Places, slot: &Slot, u: VarId, v: VarId) -> bool
-    requires row { slot.now.row.0 ≡ 15 }
+    requires row { slot.now.row.0 ≡ number.linear }
     requires leaders { slot.now.leaders ≡ u ∷ v ∷ [] }
     ensures { IsTrue result → IsIdle watch.now slot.now }
 {
@@ -341,7 +342,7 @@ fn is_idle_line(watch: &Watch, places: &Places, slot: &Slot, u: VarId, v: VarId)
     ) && are_near_each(watch.ranges.as_slice(), places.ranges.as_slice(), u, v, v)
 }
 
-// Whether a slot of row 67 over three leaders is seen to be idle.
+// Whether a slot of LinearTernary over three leaders is seen to be idle.
 fn is_idle_of_three(
     watch: &Watch,
     places: &Places,
@@ -350,7 +351,7 @@ fn is_idle_of_three(
     v: VarId,
     w: VarId,
 ) -> bool
-    requires row { slot.now.row.0 ≡ 67 }
+    requires row { slot.now.row.0 ≡ number.linear_ternary }
     requires leaders { slot.now.leaders ≡ u ∷ v ∷ w ∷ [] }
     ensures { IsTrue result → IsIdle watch.now slot.now }
 {
@@ -386,14 +387,14 @@ fn is_idle_greatest(watch: &Watch, places: &Places, v: VarId, state: &State) -> 
     }
 }
 
-// Whether a slot of row 2 or 3 over a leader is seen to be idle.
+// Whether a slot of LowerBound or UpperBound over a leader is seen to be idle.
 fn is_idle_bound(watch: &Watch, places: &Places, slot: &Slot, v: VarId) -> bool
     requires { slot.now.leaders ≡ v ∷ [] }
     ensures { IsTrue result → IsIdle watch.now slot.now }
 {
-    if slot.row.0 == 2 {
+    if slot.row.0 == rows::LOWER_BOUND {
         is_idle_least(watch, places, v, &slot.state)
-    } else if slot.row.0 == 3 {
+    } else if slot.row.0 == rows::UPPER_BOUND {
         is_idle_greatest(watch, places, v, &slot.state)
     } else {
         false
@@ -430,8 +431,8 @@ fn is_known(watch: &Watch, places: &Places, row: RowId, u: VarId, v: VarId) -> b
 
 // Whether a slot of a comparison over two leaders is seen to be idle.
 fn is_idle_comparison(watch: &Watch, places: &mut Places, slot: &Slot, u: VarId, v: VarId) -> bool
-    requires from { 11 ≤ slot.now.row.0 }
-    requires to { slot.now.row.0 ≤ 14 }
+    requires from { number.eq_int ≤ slot.now.row.0 }
+    requires to { slot.now.row.0 ≤ number.le }
     requires leaders { slot.now.leaders ≡ u ∷ v ∷ [] }
     ensures { IsTrue result → IsIdle watch.now slot.now }
 {
@@ -451,16 +452,16 @@ fn is_idle(watch: &Watch, places: &mut Places, slot: &Slot) -> bool
     match slot.leaders.as_slice() {
         [v] => is_idle_bound(watch, places, slot, *v),
         [u, v] => {
-            if 11 <= slot.row.0 && slot.row.0 <= 14 {
+            if rows::EQ_INT <= slot.row.0 && slot.row.0 <= rows::LE {
                 is_idle_comparison(watch, places, slot, *u, *v)
-            } else if slot.row.0 == 15 {
+            } else if slot.row.0 == rows::LINEAR {
                 is_idle_line(watch, places, slot, *u, *v)
             } else {
                 false
             }
         }
         [u, v, w] => {
-            if slot.row.0 == 67 {
+            if slot.row.0 == rows::LINEAR_TERNARY {
                 is_idle_of_three(watch, places, slot, *u, *v, *w)
             } else {
                 false
@@ -507,7 +508,7 @@ fn add_fixed_over(
 
 // With the number that a slot says a variable to have, if it is a plane that says that of one alone.
 fn add_fixed(ranges: &mut Ranges, slot: &Slot) -> Result<(), NoMemory> {
-    if slot.row.0 != 67 {
+    if slot.row.0 != rows::LINEAR_TERNARY {
         return Ok(());
     }
     match slot.leaders.as_slice() {
@@ -518,7 +519,7 @@ fn add_fixed(ranges: &mut Ranges, slot: &Slot) -> Result<(), NoMemory> {
 
 // Whether a plane says no more than what is known of the variables.
 fn is_known_plane(ranges: &Ranges, slot: &Slot) -> bool {
-    if slot.row.0 != 67 {
+    if slot.row.0 != rows::LINEAR_TERNARY {
         return false;
     }
     match slot.leaders.as_slice() {

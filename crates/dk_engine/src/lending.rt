@@ -8,7 +8,7 @@ ghost use Rattle.dk_engine.specs.Memory.{IsLaidOut, wants_memory};
 
 use crate::points::point;
 use dk_base::{Kind, NoMemory, Value, View, same_kept};
-use dk_template::{RowId, State};
+use dk_template::{RowId, State, rows};
 use std::alloc::Global;
 
 // The strings of a sequence of strings, laid out. Any other value has none, and wants no memory.
@@ -103,7 +103,7 @@ pub(crate) fn point_of_two(
     ensures state { IfOk result (λ s. s ≡ state_of row ((a.now ∷ b.now ∷ []) ∷ [])) }
     ensures err { OnErr result (IsTrue (wants_memory row)) }
 {
-    if row.0 == 60 {
+    if row.0 == rows::EQ_STR_SEQ {
         return Ok(if same_kept(a, b) {
             State::Holds
         } else {

@@ -53,4 +53,4 @@ pub use points::point;
 pub use saved::PartsFault;
 pub use slot::Slot;
 pub use slots::Slots;
-pub use suited::{suited_vars, suits};
+pub use suited::suited_vars;

@@ -3,6 +3,7 @@
 use crate::Slot;
 use crate::changes::Change;
 use dk_base::{NoMemory, VarId};
+use dk_template::rows;
 use std::alloc::Global;
 
 // How many samples come before anything is noted: fewer cost less without.
@@ -30,7 +31,7 @@ pub(crate) struct Moves {
 
 /// The variable of whose number a slot says a bound.
 pub(crate) fn bounded(slot: &Slot) -> Option<VarId> {
-    if slot.row.0 != 2 && slot.row.0 != 3 {
+    if slot.row.0 != rows::LOWER_BOUND && slot.row.0 != rows::UPPER_BOUND {
         return None;
     }
     match slot.leaders.as_slice() {
@@ -44,7 +45,7 @@ fn number_of(slot: &Slot) -> Option<usize> {
     match bounded(slot) {
         Some(v) => {
             let least = (v.0 as usize).wrapping_mul(2);
-            Some(if slot.row.0 == 2 {
+            Some(if slot.row.0 == rows::LOWER_BOUND {
                 least
             } else {
                 least.wrapping_add(1)

@@ -12,28 +12,7 @@ ghost use Rattle.dk_engine.specs.Feeding.{with_sample};
 
 use dk_base::{VarId, View};
 use dk_samples::value_at;
-use dk_template::RowId;
 use dk_ternary::Operation;
-
-/// The operation of which a row states the result, if it states one.
-pub(crate) fn operation_of(row: RowId) -> Option<Operation>
-    ensures { IfSome result (λ o. operation_row o ≡ row) }
-{
-    match row.0 {
-        24 => Some(Operation::Sum),
-        25 => Some(Operation::Difference),
-        26 => Some(Operation::Product),
-        27 => Some(Operation::Minimum),
-        28 => Some(Operation::Maximum),
-        29 => Some(Operation::Quotient),
-        30 => Some(Operation::Remainder),
-        31 => Some(Operation::And),
-        32 => Some(Operation::Or),
-        33 => Some(Operation::Xor),
-        34 => Some(Operation::Gcd),
-        _ => None,
-    }
-}
 
 /// The number that the variable has in the sample, if it has one.
 #[inline(always)]

@@ -18,7 +18,7 @@ use crate::constant::{are_known, constant_state};
 use crate::places::find;
 use dk_base::{NoMemory, VarId, VarInfo};
 use dk_suppress::suppressed;
-use dk_template::{Answers, Grammar, RowId, State, turn_state, written_order};
+use dk_template::{Answers, Grammar, RowId, State, is_written, turn_state, written_order};
 use std::alloc::Global;
 use std::marker::Model;
 
@@ -92,8 +92,8 @@ impl<'a, B: Answers> Over<'a, B> {
         }
     }
 
-    /// The state of leaders in any order.
-    pub(crate) fn state(&self, row: RowId, vars: &[VarId]) -> Result<State, NoMemory>
+    // The state of leaders that may not be in the row's written order.
+    fn state_turned(&self, row: RowId, vars: &[VarId]) -> Result<State, NoMemory>
         requires row { IsRowOf self.now.grammar row }
         requires vars { IsTrue (admits row self.now.infos vars.now) }
         ensures state { IfOk result (λ s. s ≡ read_leaders self.now.ranks self.now.kept row vars.now) }
@@ -105,6 +105,23 @@ impl<'a, B: Answers> Over<'a, B> {
         let ordered = written_order(row, vars);
         let state = self.state_written(row, ordered.as_slice())?;
         Ok(turn_state(row, vars, state))
+    }
+
+    /// The state of leaders in any order. Where they are in the row's written order, nothing is turned.
+    pub(crate) fn state(&self, row: RowId, vars: &[VarId]) -> Result<State, NoMemory>
+        requires row { IsRowOf self.now.grammar row }
+        requires vars { IsTrue (admits row self.now.infos vars.now) }
+        ensures state { IfOk result (λ s. s ≡ read_leaders self.now.ranks self.now.kept row vars.now) }
+        ensures proper { IfOk result (λ s. IsProper (form_of row) s) }
+        ensures err { OnErr result (IsTrue (wants_memory row)) }
+    {
+        // What holds of the level is known once something of it is read.
+        let _kept = self.kept;
+        if is_written(row, vars) {
+            self.state_written(row, vars)
+        } else {
+            self.state_turned(row, vars)
+        }
     }
 }
 

@@ -18,7 +18,7 @@ pub struct Parts {
     pub slots: List<Slot>,
 }
 
-// An equal slot.
+// A slot that is equal to this one, in memory of its own.
 fn copy_slot(alloc: Global, slot: &Slot) -> Result<Slot, NoMemory>
     ensures { IfOk result (λ copy. copy ≡ slot.now) }
 {
@@ -30,7 +30,7 @@ fn copy_slot(alloc: Global, slot: &Slot) -> Result<Slot, NoMemory>
     })
 }
 
-// Equal slots.
+// Slots that are equal to these, in memory of their own.
 fn copy_slots(alloc: Global, slots: &[Slot]) -> Result<List<Slot>, NoMemory>
     ensures { IfOk result (λ copies. copies ≡ slots.now) }
 {

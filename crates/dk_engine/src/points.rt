@@ -9,7 +9,7 @@ ghost use Rattle.dk_template.specs.Templates.{IsRow, form_of, role_kinds};
 ghost use Rattle.dk_template.specs.declared.templates.StateForm.{StateForm};
 
 use dk_base::{NoMemory, View};
-use dk_template::{RowId, State};
+use dk_template::{RowId, State, rows};
 use std::alloc::Global;
 
 /// A row's state of one tuple. Only texts want memory.
@@ -20,13 +20,13 @@ pub fn point(alloc: Global, row: RowId, tuple: &[View<'_>]) -> Result<State, NoM
     ensures err { OnErr result (form_of row ≡ StateForm.Texts) }
 {
     let n = row.0;
-    if n <= 10 {
+    if n <= rows::NON_NULL_STR {
         dk_unary::point(alloc, row, tuple)
-    } else if n <= 23 {
+    } else if n <= rows::NE_STR {
         dk_binary::point(alloc, row, tuple)
-    } else if n <= 34 || n == 67 {
+    } else if n <= rows::GCD || n == rows::LINEAR_TERNARY {
         dk_ternary::point(alloc, row, tuple)
-    } else if n <= 48 || 52 <= n && n <= 56 {
+    } else if n <= rows::ELT_NON_NULL_STR || rows::ELT_EQ <= n && n <= rows::ELT_GE {
         dk_elements::point(alloc, row, tuple)
     } else {
         dk_pairs::point(alloc, row, tuple)
@@ -41,13 +41,13 @@ pub fn stays(row: RowId, state: &State, tuple: &[View<'_>]) -> bool
     ensures { IsTrue result ↔ (joined (form_of row) state.now (state_of row (values_of tuple.now ∷ [])) ≡ state.now) }
 {
     let n = row.0;
-    if n <= 10 {
+    if n <= rows::NON_NULL_STR {
         dk_unary::stays(row, state, tuple)
-    } else if n <= 23 {
+    } else if n <= rows::NE_STR {
         dk_binary::stays(row, state, tuple)
-    } else if n <= 34 || n == 67 {
+    } else if n <= rows::GCD || n == rows::LINEAR_TERNARY {
         dk_ternary::stays(row, state, tuple)
-    } else if n <= 48 || 52 <= n && n <= 56 {
+    } else if n <= rows::ELT_NON_NULL_STR || rows::ELT_EQ <= n && n <= rows::ELT_GE {
         dk_elements::stays(row, state, tuple)
     } else {
         dk_pairs::stays(row, state, tuple)

@@ -3,11 +3,12 @@ ghost use Rattle.std.specs.Prelude.{◌≡◌, ◌∷◌, [], IfSome};
 ghost use Rattle.dk_base.specs.Values.{values_of};
 ghost use Rattle.dk_forms.specs.Greatest.{greatest_join, greatest_of};
 ghost use Rattle.dk_engine.specs.Feeding.{with_sample};
+ghost use Rattle.dk_template.specs.Numbers as number;
 
 use crate::Slot;
 use crate::operations::number_at;
 use dk_base::{VarId, View};
-use dk_template::State;
+use dk_template::{State, rows};
 
 // The state with a number more, if it is a greatest value.
 fn raise(state: &State, x: i64) -> Option<State>
@@ -19,9 +20,9 @@ fn raise(state: &State, x: i64) -> Option<State>
     }
 }
 
-// The state of a slot of row 3 over a leader with a sample, if both have a number.
+// The state of a slot of UpperBound over a leader with a sample, if both have a number.
 fn raise_by(slot: &Slot, sample: &[View<'_>], v: VarId) -> Option<State>
-    requires row { slot.now.row.0 ≡ 3 }
+    requires row { slot.now.row.0 ≡ number.upper_bound }
     requires leaders { slot.now.leaders ≡ v ∷ [] }
     ensures { IfSome result (λ s. s ≡ with_sample slot.now.row slot.now.leaders (values_of sample.now) slot.now.state) }
 {
@@ -31,9 +32,9 @@ fn raise_by(slot: &Slot, sample: &[View<'_>], v: VarId) -> Option<State>
     }
 }
 
-// The state of a slot of row 3 with a sample, if both have a number.
+// The state of a slot of UpperBound with a sample, if both have a number.
 fn raise_with(slot: &Slot, sample: &[View<'_>]) -> Option<State>
-    requires { slot.now.row.0 ≡ 3 }
+    requires { slot.now.row.0 ≡ number.upper_bound }
     ensures { IfSome result (λ s. s ≡ with_sample slot.now.row slot.now.leaders (values_of sample.now) slot.now.state) }
 {
     match slot.leaders.as_slice() {
@@ -46,7 +47,7 @@ fn raise_with(slot: &Slot, sample: &[View<'_>]) -> Option<State>
 pub(crate) fn raised_with(slot: &Slot, sample: &[View<'_>]) -> Option<State>
     ensures { IfSome result (λ s. s ≡ with_sample slot.now.row slot.now.leaders (values_of sample.now) slot.now.state) }
 {
-    if slot.row.0 == 3 {
+    if slot.row.0 == rows::UPPER_BOUND {
         raise_with(slot, sample)
     } else {
         None

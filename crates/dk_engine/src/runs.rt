@@ -1,5 +1,5 @@
 // Runs of slots that a sample leaves as they are, found without looking at the row of each.
-ghost use Rattle.std.specs.Prelude.{◌≡◌, ◌<◌, ◌≤◌, ℕ, true, false, All, IsTrue, length};
+ghost use Rattle.std.specs.Prelude.{◌≡◌, ◌<◌, ◌≤◌, ℕ, true, All, IsTrue, length};
 ghost use Rattle.std.specs.List.{AllPairs};
 ghost use Rattle.dk_base.specs.Values.{values_of};
 ghost use Rattle.dk_base.specs.declared.kinds.VarId.{VarId};
@@ -8,7 +8,7 @@ ghost use Rattle.dk_engine.specs.Feeding.{with_sample};
 ghost use Rattle.dk_engine.specs.Idle.{PassesStill, skip_in};
 ghost use Rattle.dk_engine.specs.Narrow.{is_in_run};
 ghost use Rattle.dk_engine.specs.Parts.{slot_in};
-ghost use Rattle.dk_engine.specs.Step.{IsPlaced, can_close};
+ghost use Rattle.dk_engine.specs.Step.{IsPlaced};
 ghost use Rattle.dk_engine.specs.declared.slot.Slot.{Slot};
 ghost use Rattle.dk_grammar.specs.Runs.{AreSlots};
 ghost use Rattle.dk_template.specs.Proper.{IsProper};
@@ -21,7 +21,7 @@ use crate::ends::REACH;
 use crate::idle::{is_passed, skip_at};
 use dk_base::View;
 use dk_grammar::first_changed;
-use dk_template::RowId;
+use dk_template::{RowId, rows};
 
 // Where the slots of this row and of earlier ones end, found by halving.
 fn rows_end(slots: &[Slot], row: RowId) -> usize
@@ -92,17 +92,39 @@ fn end_of_row(ends: &[usize], slots: &[Slot], place: usize) -> usize
     }
 }
 
-// Up to where the slots from one place to another can't close.
-fn open_end(slots: &[Slot], from: usize, to: usize) -> usize
-    requires from { from ≤ to }
-    requires to { to ≤ length slots.now }
-    ensures from { from ≤ result }
-    ensures to { result ≤ to }
-    ensures stay_open { (k : ℕ) → from ≤ k → k < result → can_close (slot_in slots.now k) ≡ false }
+// Whether the slot is of a row and can't close.
+fn is_in_run(row: RowId, slot: &Slot) -> bool
+    ensures { result ≡ is_in_run true row slot.now }
 {
-    for place in from..to {
-        if can_close(&slots[place]) {
-            return place;
+    slot.row.0 == row.0 && !can_close(slot)
+}
+
+// Up to where slots from a place on are taken together.
+fn reach_of(slots: &[Slot], place: usize) -> usize
+    requires { place < length slots.now }
+    ensures from { place < result }
+    ensures to { result ≤ length slots.now }
+{
+    if slots.len() - place <= REACH {
+        slots.len()
+    } else {
+        place + REACH
+    }
+}
+
+// Up to where the slots from a place on are of its row and can't close, of as many as are taken together. They are looked at anyway, so
+// the end of the row isn't sought.
+fn open_end(slots: &[Slot], place: usize) -> usize
+    requires { place < length slots.now }
+    ensures from { place ≤ result }
+    ensures to { result ≤ length slots.now }
+    ensures run { (k : ℕ) → place ≤ k → k < result → is_in_run true (slot_in slots.now place).row (slot_in slots.now k) ≡ true }
+{
+    let row = slots[place].row;
+    let to = reach_of(slots, place);
+    for other in place..to {
+        if !is_in_run(row, &slots[other]) {
+            return other;
         }
     }
     to
@@ -117,11 +139,10 @@ pub(crate) fn run_end(asked: bool, ends: &[usize], slots: &[Slot], place: usize)
     ensures to { result ≤ length slots.now }
     ensures run { (k : ℕ) → place ≤ k → k < result → is_in_run asked (slot_in slots.now place).row (slot_in slots.now k) ≡ true }
 {
-    let end = end_of_row(ends, slots, place);
     if asked {
-        open_end(slots, place, end)
+        open_end(slots, place)
     } else {
-        end
+        end_of_row(ends, slots, place)
     }
 }
 
@@ -219,7 +240,7 @@ fn still_among(
 
 // Whether some slots of a row may be passed over, and others lie between them: lines. Bounds, comparisons and planes are looked at one by one.
 fn may_be_idle(row: RowId, skips: &[usize]) -> bool {
-    row.0 == 15 && !skips.is_empty()
+    row.0 == rows::LINEAR && !skips.is_empty()
 }
 
 /// Up to where the slots of a row from one place to another stay as they are.

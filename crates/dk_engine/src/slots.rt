@@ -38,7 +38,7 @@ impl Model for Slots {
     ghost invariant = { λ s. AreSkips s.notes.watch s.all.items s.notes.skips.items };
 }
 
-// Makes a change.
+// Gives the slot at the change's place its state.
 fn change_slot(slots: &mut [Slot], change: Change)
     ensures { slots.new ≡ with_change slots.old change }
 {
@@ -48,7 +48,7 @@ fn change_slot(slots: &mut [Slot], change: Change)
     }
 }
 
-// Makes all changes.
+// Makes the changes one after another.
 fn change_slots(slots: &mut [Slot], changes: Vec<Change>)
     ensures { slots.new ≡ fold with_change slots.old changes.items }
 {
@@ -146,7 +146,7 @@ impl Slots {
         Ok(())
     }
 
-    /// The slots.
+    /// All slots in their order.
     pub fn as_slice(&self) -> &[Slot]
         ensures { result.now ≡ self.now }
     {
@@ -169,7 +169,7 @@ impl Slots {
         self.notes.ends.as_slice()
     }
 
-    // These slots.
+    // Slots that are in order already.
     pub(crate) fn of(all: Vec<Slot>) -> Slots
         ensures { result ≡ all.items }
     {

@@ -4,11 +4,12 @@ ghost use Rattle.std.specs.Prelude.{◌≡◌, ◌≤◌, ◌∷◌, [], IsTrue}
 ghost use Rattle.dk_base.specs.Values.{values_of};
 ghost use Rattle.dk_engine.specs.Bounding.{compares, is_holds, keeps_greatest, keeps_least};
 ghost use Rattle.dk_engine.specs.Feeding.{with_sample};
+ghost use Rattle.dk_template.specs.Numbers as number;
 
 use crate::Slot;
 use dk_base::{VarId, View};
 use dk_samples::value_at;
-use dk_template::{RowId, State};
+use dk_template::{RowId, State, rows};
 
 // Whether a number leaves a least value as it is.
 #[inline(always)]
@@ -32,10 +33,10 @@ fn keeps_greatest(state: &State, x: i64) -> bool
     }
 }
 
-// Whether a sample is seen to leave a slot of row 2 over a leader as it is: it doesn't change the least value, or the number is missing.
+// Whether a sample is seen to leave a slot of LowerBound over a leader as it is: it doesn't change the least value, or the number is missing.
 #[inline(always)]
 fn stays_least(slot: &Slot, sample: &[View<'_>], v: VarId) -> bool
-    requires row { slot.now.row.0 ≡ 2 }
+    requires row { slot.now.row.0 ≡ number.lower_bound }
     requires leaders { slot.now.leaders ≡ v ∷ [] }
     ensures { IsTrue result → with_sample slot.now.row slot.now.leaders (values_of sample.now) slot.now.state ≡ slot.now.state }
 {
@@ -46,10 +47,10 @@ fn stays_least(slot: &Slot, sample: &[View<'_>], v: VarId) -> bool
     }
 }
 
-// The same of a slot of row 3.
+// The same of a slot of UpperBound.
 #[inline(always)]
 fn stays_greatest(slot: &Slot, sample: &[View<'_>], v: VarId) -> bool
-    requires row { slot.now.row.0 ≡ 3 }
+    requires row { slot.now.row.0 ≡ number.upper_bound }
     requires leaders { slot.now.leaders ≡ v ∷ [] }
     ensures { IsTrue result → with_sample slot.now.row slot.now.leaders (values_of sample.now) slot.now.state ≡ slot.now.state }
 {
@@ -60,16 +61,16 @@ fn stays_greatest(slot: &Slot, sample: &[View<'_>], v: VarId) -> bool
     }
 }
 
-/// Whether what a row of a comparison, one of rows 11 to 14, says is so of two numbers.
+/// Whether what a row of a comparison, one from EqInt to Le, says is so of two numbers.
 #[inline(always)]
 pub(crate) fn is_so(row: RowId, x: i64, y: i64) -> bool
     ensures { result ≡ compares row.0 x y }
 {
-    if row.0 == 13 {
+    if row.0 == rows::LT {
         x < y
-    } else if row.0 == 12 {
+    } else if row.0 == rows::NE_INT {
         x != y
-    } else if row.0 == 11 {
+    } else if row.0 == rows::EQ_INT {
         x == y
     } else {
         x <= y
@@ -87,8 +88,8 @@ pub(crate) fn holds(state: &State) -> bool
 // Whether a sample is seen to leave a slot of such a row over two leaders as it is: what it says is so of their numbers, or one is missing.
 #[inline(always)]
 fn stays_compared(slot: &Slot, sample: &[View<'_>], u: VarId, v: VarId) -> bool
-    requires from { 11 ≤ slot.now.row.0 }
-    requires to { slot.now.row.0 ≤ 14 }
+    requires from { number.eq_int ≤ slot.now.row.0 }
+    requires to { slot.now.row.0 ≤ number.le }
     requires leaders { slot.now.leaders ≡ u ∷ v ∷ [] }
     ensures { IsTrue result → with_sample slot.now.row slot.now.leaders (values_of sample.now) slot.now.state ≡ slot.now.state }
 {
@@ -107,14 +108,14 @@ pub(crate) fn is_seen_to_stay(slot: &Slot, sample: &[View<'_>]) -> bool
 {
     match slot.leaders.as_slice() {
         [v] => {
-            if slot.row.0 == 2 {
+            if slot.row.0 == rows::LOWER_BOUND {
                 stays_least(slot, sample, *v)
             } else {
-                slot.row.0 == 3 && stays_greatest(slot, sample, *v)
+                slot.row.0 == rows::UPPER_BOUND && stays_greatest(slot, sample, *v)
             }
         }
         [u, v] => {
-            if 11 <= slot.row.0 && slot.row.0 <= 14 {
+            if rows::EQ_INT <= slot.row.0 && slot.row.0 <= rows::LE {
                 stays_compared(slot, sample, *u, *v)
             } else {
                 false
@@ -126,5 +127,7 @@ pub(crate) fn is_seen_to_stay(slot: &Slot, sample: &[View<'_>]) -> bool
 
 /// Whether the row is of such slots: a bound of a number, or a comparison of two.
 pub(crate) fn is_of_bounds_or_comparisons(row: RowId) -> bool {
-    row.0 == 2 || row.0 == 3 || 11 <= row.0 && row.0 <= 14
+    row.0 == rows::LOWER_BOUND
+        || row.0 == rows::UPPER_BOUND
+        || rows::EQ_INT <= row.0 && row.0 <= rows::LE
 }

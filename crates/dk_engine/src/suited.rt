@@ -5,22 +5,9 @@ ghost use Rattle.dk_engine.specs.Suited.{all_roles, suited_vars};
 
 use Kind::{Bool, BoolSeq, Hash, HashSeq, Int, IntSeq, Str, StrSeq};
 use Role::{Any, Base};
-use dk_base::{Form, Kind, List, NoMemory, VarId, VarInfo};
-use dk_template::Role;
+use dk_base::{Kind, List, NoMemory, VarId, VarInfo};
+use dk_template::{Role, suits};
 use std::alloc::Global;
-
-/// Whether the variable is there, is of the role's kind, and is a base one where the role takes base ones alone.
-pub fn suits(role: Role, infos: &[VarInfo], v: VarId) -> bool
-    ensures { result ≡ suits role (slice_get infos.now v.0) }
-{
-    match infos.get(v.0 as usize) {
-        Some(info) => {
-            info.kind == role.kind()
-                && (!role.is_base() || matches!(info.form, Form::Declared | Form::Orig))
-        }
-        None => false,
-    }
-}
 
 /// Those of the variables that suit a role.
 pub fn suited_vars(
@@ -48,7 +35,7 @@ pub(crate) fn suited_one<'v>(role: Role, infos: &[VarInfo], one: &'v [VarId]) ->
     if suits(role, infos, one[0]) { one } else { &[] }
 }
 
-// All roles.
+// Every role that a row may have.
 const ROLES: &[Role] = &[
     Any(Bool),
     Any(Int),
@@ -68,7 +55,7 @@ const ROLES: &[Role] = &[
     Base(StrSeq),
 ];
 
-// All roles.
+// Every role that a row may have.
 fn all_roles() -> &'static [Role]
     ensures { result.now ≡ all_roles }
 {
@@ -120,7 +107,7 @@ pub(crate) struct Suited<'a> {
 }
 
 impl<'a> Suited<'a> {
-    /// These leaders.
+    /// Lists these leaders by the roles that they suit.
     pub(crate) fn of(
         alloc: Global,
         infos: &'a [VarInfo],

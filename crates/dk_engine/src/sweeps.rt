@@ -10,16 +10,14 @@ ghost use Rattle.dk_engine.specs.Sweeps.{behind, considered, firsts, freed_slots
 
 use crate::after::After;
 use crate::constant::are_known;
-use crate::operations::{breaks, descend, operation_of};
+use crate::operations::{breaks, descend};
 use crate::reaching::rows_reached;
 use crate::suited::{Suited, suited_one};
 use crate::{Slot, Slots};
 use dk_base::{NoMemory, VarId, VarInfo};
 use dk_constants::Constants;
 use dk_suppress::suppressed;
-use dk_template::{
-    Answers, Grammar, Role, RowId, State, Takes, Tuple, admits, is_written, template_at,
-};
+use dk_template::{Grammar, Role, RowId, State, Takes, Tuple, admits, is_written, template_at};
 use dk_ternary::Operation;
 use std::alloc::Global;
 
@@ -40,10 +38,16 @@ impl<'a> Sweep<'a> {
         requires few { length vars.now ≤ 3 }
         ensures { OnOk result (slots.new ≡ slots.old ++ considered self.now.infos.now self.now.known.now (read_after self.now.answers.now.whole.kept self.now.answers.now.sample) row vars.now) }
     {
-        if !admits(row, self.infos, vars) || !is_written(row, vars) || are_known(self.known, vars) {
+        if !admits(row, self.infos, vars) || !is_written(row, vars) {
             return Ok(());
         }
-        let state = self.answers.answer(row, vars)?;
+        if self.answers.breaks(row, vars) {
+            return Ok(());
+        }
+        if are_known(self.known, vars) {
+            return Ok(());
+        }
+        let state = self.answers.unbroken_state(row, vars)?;
         if matches!(state, State::Broken) || suppressed(row, vars, self.answers) {
             return Ok(());
         }
@@ -109,7 +113,7 @@ impl<'a> Sweep<'a> {
         requires { IsRowOf self.now.answers.now.whole.grammar row }
         ensures { OnOk result (slots.new ≡ slots.old ++ thirds self.now.infos.now self.now.known.now (read_after self.now.answers.now.whole.kept self.now.answers.now.sample) row v w third.now) }
     {
-        let operation = operation_of(row);
+        let operation = Operation::of(row);
         for x in third {
             if !self.is_out(operation, v, w, *x) {
                 self.consider(row, &[v, w, *x], slots)?;

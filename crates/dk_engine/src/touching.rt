@@ -52,7 +52,7 @@ pub(crate) fn touching_leaders(alloc: Global, now: &Now) -> Result<List<VarId>, 
     Ok(vars)
 }
 
-/// The other leaders.
+/// The leaders of which no tuple is touched for their own sake.
 pub(crate) fn others(alloc: Global, now: &Now) -> Result<List<VarId>, NoMemory>
     ensures { IfOk result (λ vars. vars ≡ other_leaders now.now) }
 {

@@ -78,7 +78,7 @@ fn sample<'a>(
     vars: &[VarInfo],
     point: PointId,
     line: u64,
-    base: &[View<'a>],
+    base: &'a [View<'a>],
 ) -> Result<Event<'a>, NoMemory>
     ensures event { IfOk result (λ event. effect_told event ≡ Samples point.0 line (values_by_form vars.now (values_of base.now))) }
     ensures fits { (ps : List Point) → point.0 < length ps → vars.now ≡ all_vars_of ps point.0 → FitKinds (var_kinds (vars_of ps point.0)) (values_of base.now)

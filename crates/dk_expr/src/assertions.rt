@@ -15,7 +15,7 @@ use std::alloc::Global;
 /// What a line of a report asserts: an instance, and the state of its tuples. Where the line doesn't tell the state, it is Empty.
 #[derive(Debug, Drop)]
 pub struct Assertion {
-    /// The row.
+    /// The row of the grammar.
     pub row: RowId,
     /// The variables, by the row's roles.
     pub vars: Tuple,

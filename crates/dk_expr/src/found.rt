@@ -22,7 +22,7 @@ pub(crate) struct Found {
     /// The remainder of a modulus, and the modulus.
     pub(crate) remainder: i128,
     pub(crate) modulus: i128,
-    /// The offset.
+    /// The constant that the text adds or takes away.
     pub(crate) offset: i128,
     /// The constant of a line or a plane.
     pub(crate) constant: i128,

@@ -71,7 +71,7 @@ fn put(
 }
 
 impl Names {
-    // No variables.
+    // The names of no variables.
     fn new(alloc: Global) -> Names
         ensures { result ≡ [] }
     {

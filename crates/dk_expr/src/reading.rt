@@ -1,9 +1,8 @@
 // A text read as an assertion.
-ghost use Rattle.std.specs.Prelude.{◌≡◌, ◌↔◌, ◌⊎◌, ◌<◌, ◌≤◌, ◌^◌, ◌==◌, Contains, IfNone, IfOk, IfSome, IsSomeAnd, IsTrue, List, length, not};
-ghost use Rattle.std.specs.List.{list_all};
+ghost use Rattle.std.specs.Prelude.{◌≡◌, ◌↔◌, ◌⊎◌, ◌<◌, ◌≤◌, ◌^◌, Contains, IfNone, IfOk, IfSome, IsSomeAnd, IsTrue, List, length};
 ghost use Rattle.dk_base.specs.declared.kinds.VarId.{VarId};
 ghost use Rattle.dk_engine.specs.Ordering.{precedes as is_before};
-ghost use Rattle.dk_fits.specs.Instances.{Precedes, are_distinct, is_asked};
+ghost use Rattle.dk_fits.specs.Instances.{Precedes};
 ghost use Rattle.dk_forms.specs.declared.states.State.{State};
 ghost use Rattle.dk_print.specs.Texts.{instance_text};
 ghost use Rattle.dk_template.specs.Fitting.{fits};
@@ -22,34 +21,10 @@ use crate::names::Names;
 use crate::states::state_of;
 use crate::walking::behind_all;
 use dk_base::{List, NoMemory, VarId, VarInfo};
+use dk_filters::is_asked;
 use dk_print::{instance, parts_of};
-use dk_template::{RowId, State, Takes, Tuple, admits, fits, is_written, proper, template_at};
+use dk_template::{RowId, State, Takes, Tuple, fits, proper, rows, template_at};
 use std::alloc::Global;
-
-// Whether the variable is none of the others.
-fn is_none_of(v: VarId, others: &[VarId]) -> bool
-    ensures { result ≡ list_all (λ w. not (v.0 == w.0)) others.now }
-{
-    others.iter().all(|w| v.0 != w.0)
-}
-
-// Whether no variable comes twice.
-fn are_distinct(vars: &[VarId]) -> bool
-    ensures { result ≡ are_distinct vars.now }
-{
-    match vars {
-        [] => true,
-        [v, others @ ..] => is_none_of(*v, others) && are_distinct(others),
-    }
-}
-
-// Whether the variables are an instance's.
-fn is_asked(row: RowId, infos: &[VarInfo], vars: &[VarId]) -> bool
-    requires { IsRow row }
-    ensures { result ≡ is_asked infos.now row vars.now }
-{
-    admits(row, infos, vars) && is_written(row, vars) && are_distinct(vars)
-}
 
 // Whether the first tuple precedes the other: at the first place at which they differ it has the earlier variable.
 fn precedes(vars: &[VarId], others: &[VarId]) -> bool
@@ -239,7 +214,7 @@ pub fn read_by(
     ensures read { IfOk result (λ read. IfSome read (λ a. IsRead vars.now text.now a)) }
     ensures none { IfOk result (λ read. IfNone read (HasNone vars.now text.now)) }
 {
-    for row in 1..69 {
+    for row in rows::ONE_OF_INT..=rows::PAIR_OFFSET {
         if let Some(first) = first_of(alloc, vars, names, text, RowId(row))? {
             return Ok(Some(as_told(first)));
         }

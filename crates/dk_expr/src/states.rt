@@ -73,7 +73,7 @@ fn code(bytes: &[u8]) -> State
     }
 }
 
-// Whole numbers.
+// The state of the whole numbers that a text lists.
 fn ints(alloc: Global, bytes: &[u8]) -> Result<Option<State>, NoMemory>
     ensures read { IfOk result (λ state. (ks : List ℤ) → IsTrue (list_all fits_i64 ks) → 1 ≤ length ks → length ks ≤ 3 → bytes.now ≡ known_text (State.Ints ks) → state ≡ Some (State.Ints ks)) }
     ensures held { IfOk result (λ state. IfSome state (λ s. IsTrue (is_held s))) }

@@ -16,6 +16,7 @@ use Rattle.dk_forms.specs.declared.states.State.TheVariants as state
 use Rattle.dk_points.specs.Sameness.{same_compar}
 use Rattle.dk_suppress.specs.Rules.{is_suppressed}
 use Rattle.dk_template.specs.Fitting.{fits}
+use Rattle.dk_template.specs.Numbers as number
 use Rattle.dk_template.specs.Premises.{premise_fits}
 use Rattle.dk_template.specs.declared.answers.Premise.{Premise}
 use Rattle.dk_template.specs.declared.answers.Premise.TheVariants.{Holds}
@@ -87,11 +88,16 @@ first_like here v = unwrap_or (find (are_alike here v) (all_vars here.infos)) v
 
 -- the rows that say x == y or s == t
 abbrev pub equalities : List ℕ
-equalities = 11 ∷ 18 ∷ 20 ∷ 22 ∷ 57 ∷ 58 ∷ 59 ∷ 60 ∷ []
+equalities =
+    number.eq_int ∷ number.eq_bool ∷ number.eq_hash ∷ number.eq_str ∷ number.eq_int_seq
+    ∷ number.eq_bool_seq ∷ number.eq_hash_seq ∷ number.eq_str_seq ∷ []
+
+abbrev pub is_equality : RowId → Bool
+is_equality r = is_one_of equalities r
 
 -- an equality of the first variable with one that is like it
 abbrev pub tells_member_by : (VarId → VarId) → RowId → List VarId → Bool
-tells_member_by first r (v ∷ w ∷ []) = is_one_of equalities r && (first w).0 == v.0
+tells_member_by first r (v ∷ w ∷ []) = is_equality r && (first w).0 == v.0
 tells_member_by first r _ = false
 
 abbrev pub is_further_member_by : (VarId → VarId) → RowId → List VarId → Bool
@@ -109,13 +115,14 @@ is_further_member here r vars = is_further_member_by (first_like here) r vars
 -- they aren't 0 or null; x == y says more than a line.
 abbrev pub sharper_than : RowId → Option RowId
 sharper_than r =
-    if is_one_of (2 ∷ 3 ∷ 4 ∷ 5 ∷ []) r then Some (row_of_number 1)  -- LowerBound, UpperBound, NonZero, Modulus: OneOfInt
-    else if is_one_of (8 ∷ []) r then Some (row_of_number 7)  -- NonNullHash: OneOfHash
-    else if is_one_of (10 ∷ []) r then Some (row_of_number 9)  -- NonNullStr: OneOfStr
-    else if is_one_of (15 ∷ []) r then Some (row_of_number 11)  -- Linear: EqInt
-    else if is_one_of (36 ∷ 37 ∷ 38 ∷ []) r then Some (row_of_number 35)  -- EltLower, EltUpper, EltNonZero: EltOneOfInt
-    else if is_one_of (46 ∷ []) r then Some (row_of_number 45)  -- EltNonNullHash: EltOneOfHash
-    else if is_one_of (48 ∷ []) r then Some (row_of_number 47)  -- EltNonNullStr: EltOneOfStr
+    if is_one_of (number.lower_bound ∷ number.upper_bound ∷ number.non_zero ∷ number.modulus ∷ []) r
+    then Some (row_of_number number.one_of_int)
+    else if is_one_of (number.non_null_hash ∷ []) r then Some (row_of_number number.one_of_hash)
+    else if is_one_of (number.non_null_str ∷ []) r then Some (row_of_number number.one_of_str)
+    else if is_one_of (number.linear ∷ []) r then Some (row_of_number number.eq_int)
+    else if is_one_of (number.elt_lower ∷ number.elt_upper ∷ number.elt_non_zero ∷ []) r then Some (row_of_number number.elt_one_of_int)
+    else if is_one_of (number.elt_non_null_hash ∷ []) r then Some (row_of_number number.elt_one_of_hash)
+    else if is_one_of (number.elt_non_null_str ∷ []) r then Some (row_of_number number.elt_one_of_str)
     else None
 
 abbrev pub has_sharper : Answers → RowId → List VarId → Bool
@@ -123,7 +130,7 @@ has_sharper here r vars = option_map_or (λ s. fits (here.answered s vars)) (sha
 
 -- that the variable at the first of these roles is the sum of those at the other two
 abbrev pub sum_of : List ℕ → Premise
-sum_of roles = Holds (row_of_number 24) roles
+sum_of roles = Holds (row_of_number number.sum) roles
 
 -- each of three roles in front of the other two
 abbrev pub each_in_front : List (List ℕ)
@@ -131,7 +138,7 @@ each_in_front = (0 ∷ 1 ∷ 2 ∷ []) ∷ (1 ∷ 0 ∷ 2 ∷ []) ∷ (2 ∷ 0 �
 
 -- it is a plane, and one of its variables is the sum of the other two
 abbrev pub is_sum_plane : Answers → RowId → List VarId → Bool
-is_sum_plane here r vars = r.0 == 67 && list_any (λ roles. premise_fits here.answered (sum_of roles) vars) each_in_front
+is_sum_plane here r vars = r.0 == number.linear_ternary && list_any (λ roles. premise_fits here.answered (sum_of roles) vars) each_in_front
 
 abbrev pub is_implied : Answers → RowId → List VarId → Bool
 is_implied here r vars = is_suppressed here.answered r vars || (has_sharper here r vars || is_sum_plane here r vars)
@@ -140,10 +147,10 @@ is_implied here r vars = is_suppressed here.answered r vars || (has_sharper here
 
 -- the row that says which values a scalar has
 abbrev pub one_of_row_for : Kind → Option RowId
-one_of_row_for kind.Int = Some (row_of_number 1)
-one_of_row_for kind.Bool = Some (row_of_number 6)
-one_of_row_for kind.Hash = Some (row_of_number 7)
-one_of_row_for kind.Str = Some (row_of_number 9)
+one_of_row_for kind.Int = Some (row_of_number number.one_of_int)
+one_of_row_for kind.Bool = Some (row_of_number number.one_of_bool)
+one_of_row_for kind.Hash = Some (row_of_number number.one_of_hash)
+one_of_row_for kind.Str = Some (row_of_number number.one_of_str)
 one_of_row_for _ = None
 
 abbrev pub is_one_value : State → Bool

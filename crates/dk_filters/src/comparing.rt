@@ -1,8 +1,7 @@
 // Which variables may stand in one instance.
-ghost use Rattle.std.specs.Prelude.{◌≡◌, ◌==◌, not};
+ghost use Rattle.std.specs.Prelude.{◌≡◌};
 ghost use Rattle.std.specs.List.{list_all, list_any};
 ghost use Rattle.dk_base.specs.Comparability.{comparable};
-ghost use Rattle.dk_fits.specs.Instances.{are_distinct as all_distinct};
 ghost use Rattle.dk_filters.specs.Facts.{are_comparable, compar_of_var, has_foreign_index, index_compar_of_var, is_incomparable, sequence_and_index};
 
 use dk_base::{Compar, Form, VarId, VarInfo, comparable};
@@ -87,21 +86,4 @@ pub(crate) fn is_incomparable(vars: &[VarInfo], tuple: &[VarId]) -> bool
     ensures { result ≡ is_incomparable vars.now tuple.now }
 {
     !are_comparable(vars, tuple) || has_any_foreign_index(vars, tuple)
-}
-
-// Whether the variable is none of the others.
-fn is_none_of(v: VarId, others: &[VarId]) -> bool
-    ensures { result ≡ list_all (λ w. not (v.0 == w.0)) others.now }
-{
-    others.iter().all(|w| v.0 != w.0)
-}
-
-/// Whether no variable comes twice.
-pub(crate) fn are_distinct(tuple: &[VarId]) -> bool
-    ensures { result ≡ all_distinct tuple.now }
-{
-    match tuple {
-        [] => true,
-        [v, others @ ..] => is_none_of(*v, others) && are_distinct(others),
-    }
 }

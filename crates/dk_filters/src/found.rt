@@ -8,7 +8,7 @@ ghost use Rattle.dk_points.specs.Sameness.{same_compar};
 
 use crate::ParentView;
 use dk_base::{Compar, Kind, List, NoMemory, VarId, VarInfo};
-use dk_template::{Answers, RowId, State};
+use dk_template::{Answers, RowId, State, rows};
 use std::alloc::Global;
 
 /// What is found once for a point, so that it isn't found anew for each instance: of each variable what the filters ask about it.
@@ -71,10 +71,10 @@ fn one_of_row(kind: Kind) -> Option<RowId>
     ensures { result ≡ one_of_row_for kind }
 {
     match kind {
-        Kind::Int => Some(RowId(1)),
-        Kind::Bool => Some(RowId(6)),
-        Kind::Hash => Some(RowId(7)),
-        Kind::Str => Some(RowId(9)),
+        Kind::Int => Some(RowId(rows::ONE_OF_INT)),
+        Kind::Bool => Some(RowId(rows::ONE_OF_BOOL)),
+        Kind::Hash => Some(RowId(rows::ONE_OF_HASH)),
+        Kind::Str => Some(RowId(rows::ONE_OF_STR)),
         Kind::BoolSeq | Kind::IntSeq | Kind::HashSeq | Kind::StrSeq => None,
     }
 }

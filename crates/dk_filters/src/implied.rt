@@ -1,6 +1,6 @@
 // Whether an instance follows from others that hold.
 ghost use Rattle.std.specs.Prelude.{◌≡◌, IfOk, IsTrue, OnErr};
-ghost use Rattle.dk_filters.specs.Facts.{has_sharper, is_implied, is_one_of, is_sum_plane, sharper_than, sum_of};
+ghost use Rattle.dk_filters.specs.Facts.{has_sharper, is_equality, is_implied, is_one_of, is_sum_plane, sharper_than, sum_of};
 ghost use Rattle.dk_filters.specs.Parents.{answers_by};
 ghost use Rattle.dk_template.specs.Admitted.{admits};
 ghost use Rattle.dk_template.specs.Premises.{IsUsable, premise_fits};
@@ -9,33 +9,60 @@ ghost use Rattle.dk_filters.specs.Memory.{MayWantMemoryWhenJudged};
 
 use dk_base::{NoMemory, VarId};
 use dk_suppress::suppressed;
-use dk_template::{Answers, Premise, RowId, fits};
+use dk_template::{Answers, Premise, RowId, fits, rows};
 
-/// Whether the row is one of these.
-pub(crate) fn is_one_of(numbers: &[u8], row: RowId) -> bool
+// Whether the row is one of these.
+fn is_one_of(numbers: &[u8], row: RowId) -> bool
     ensures { result ≡ is_one_of numbers.now row }
 {
     numbers.iter().any(|n| row.0 == *n)
+}
+
+/// Whether the row says that two variables are the same.
+pub fn is_equality(row: RowId) -> bool
+    ensures { result ≡ is_equality row }
+{
+    is_one_of(
+        &[
+            rows::EQ_INT,
+            rows::EQ_BOOL,
+            rows::EQ_HASH,
+            rows::EQ_STR,
+            rows::EQ_INT_SEQ,
+            rows::EQ_BOOL_SEQ,
+            rows::EQ_HASH_SEQ,
+            rows::EQ_STR_SEQ,
+        ],
+        row,
+    )
 }
 
 // The row that says more than this one over the same variables.
 fn sharper_than(row: RowId) -> Option<RowId>
     ensures { result ≡ sharper_than row }
 {
-    if is_one_of(&[2, 3, 4, 5], row) {
-        Some(RowId(1))
-    } else if is_one_of(&[8], row) {
-        Some(RowId(7))
-    } else if is_one_of(&[10], row) {
-        Some(RowId(9))
-    } else if is_one_of(&[15], row) {
-        Some(RowId(11))
-    } else if is_one_of(&[36, 37, 38], row) {
-        Some(RowId(35))
-    } else if is_one_of(&[46], row) {
-        Some(RowId(45))
-    } else if is_one_of(&[48], row) {
-        Some(RowId(47))
+    if is_one_of(
+        &[
+            rows::LOWER_BOUND,
+            rows::UPPER_BOUND,
+            rows::NON_ZERO,
+            rows::MODULUS,
+        ],
+        row,
+    ) {
+        Some(RowId(rows::ONE_OF_INT))
+    } else if is_one_of(&[rows::NON_NULL_HASH], row) {
+        Some(RowId(rows::ONE_OF_HASH))
+    } else if is_one_of(&[rows::NON_NULL_STR], row) {
+        Some(RowId(rows::ONE_OF_STR))
+    } else if is_one_of(&[rows::LINEAR], row) {
+        Some(RowId(rows::EQ_INT))
+    } else if is_one_of(&[rows::ELT_LOWER, rows::ELT_UPPER, rows::ELT_NON_ZERO], row) {
+        Some(RowId(rows::ELT_ONE_OF_INT))
+    } else if is_one_of(&[rows::ELT_NON_NULL_HASH], row) {
+        Some(RowId(rows::ELT_ONE_OF_HASH))
+    } else if is_one_of(&[rows::ELT_NON_NULL_STR], row) {
+        Some(RowId(rows::ELT_ONE_OF_STR))
     } else {
         None
     }
@@ -63,7 +90,7 @@ fn is_sum<A: Answers>(here: &A, roles: [u8; 3], tuple: &[VarId]) -> bool
     ensures { result ≡ premise_fits (A.answered here.now) (sum_of roles) tuple.now }
 {
     let sum = Premise::Holds {
-        row: RowId(24),
+        row: RowId(rows::SUM),
         roles,
     };
     here.premise(&sum, tuple)
@@ -74,7 +101,7 @@ fn is_sum_plane<A: Answers>(here: &A, row: RowId, tuple: &[VarId]) -> bool
     requires { IsTrue (admits row (A.infos here.now) tuple.now) }
     ensures { result ≡ is_sum_plane (answers_by (A.infos here.now) (A.answered here.now) (A.counted here.now) (A.agreeing here.now)) row tuple.now }
 {
-    row.0 == 67
+    row.0 == rows::LINEAR_TERNARY
         && (is_sum(here, [0, 1, 2], tuple)
             || is_sum(here, [1, 0, 2], tuple)
             || is_sum(here, [2, 0, 1], tuple))

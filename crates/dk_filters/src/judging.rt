@@ -10,15 +10,15 @@ ghost use Rattle.dk_template.specs.Premises.{MayWantMemory as AnswerMayWantMemor
 ghost use Rattle.dk_template.specs.Templates.{IsRowOf};
 
 use crate::comparing::is_incomparable;
-use crate::implied::{is_implied, is_one_of};
+use crate::implied::{is_equality, is_implied};
 use crate::parents::Sought;
 use crate::{Facts, ParentView, PointFacts};
 use dk_base::{List, NoMemory, VarId, VarInfo};
 use dk_template::{Answers, RowId, State};
 use std::alloc::Global;
 
-// The first variable that is like it.
-fn first_of(firsts: &[VarId], v: VarId) -> VarId
+/// The first variable that is like it, of the list that says this of each.
+pub fn first_of(firsts: &[VarId], v: VarId) -> VarId
     ensures { result ≡ first_in firsts.now v }
 {
     match firsts.get(v.0 as usize) {
@@ -32,8 +32,7 @@ fn tells_member(firsts: &[VarId], row: RowId, tuple: &[VarId]) -> bool
     ensures { result ≡ tells_member_by (first_in firsts.now) row tuple.now }
 {
     match tuple {
-        [v, w] => is_one_of(&[11, 18, 20, 22, 57, 58, 59, 60], row)
-            && first_of(firsts, *w).0 == v.0,
+        [v, w] => is_equality(row) && first_of(firsts, *w).0 == v.0,
         _ => false,
     }
 }
@@ -52,7 +51,8 @@ fn is_member(firsts: &[VarId], row: RowId, tuple: &[VarId]) -> bool
     !tells_member(firsts, row, tuple) && has_later(firsts, tuple)
 }
 
-fn has_one_value(one_values: &[bool], v: VarId) -> bool
+/// Whether the variable is a scalar with one value, by the list that says this of each.
+pub fn has_one_value(one_values: &[bool], v: VarId) -> bool
     ensures { result ≡ one_value_in one_values.now v }
 {
     match one_values.get(v.0 as usize) {

@@ -8,7 +8,8 @@ ghost use Rattle.dk_filters.specs.Facts.{stands_there};
 ghost use Rattle.dk_filters.specs.Found.{listed_at};
 ghost use Rattle.dk_filters.specs.Parents.{answers_by};
 
-use crate::comparing::{are_distinct, is_incomparable};
+use crate::comparing::is_incomparable;
+use crate::instances::are_distinct;
 use dk_base::{List, NoMemory, VarId, VarInfo};
 use dk_template::{Answers, RowId, State};
 

@@ -45,7 +45,7 @@ impl Few {
         }
     }
 
-    /// The numbers.
+    /// The numbers, at most three, as they rise.
     pub fn as_slice(&self) -> &[i64]
         ensures items { result.now ≡ self.now }
         ensures few { length result.now ≤ 3 }

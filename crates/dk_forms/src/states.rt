@@ -34,7 +34,7 @@ pub enum State {
         m: u64,
         r: u64,
     },
-    /// The one point.
+    /// The one point that all samples have had.
     Spot {
         x: i64,
         y: i64,

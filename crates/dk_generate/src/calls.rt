@@ -37,7 +37,7 @@ fn is_push(height: usize, number: u64) -> bool
     height == 0 || height < ROOM && number % 2 == 0
 }
 
-/// The next call.
+/// Draws the call that comes next.
 pub(crate) fn drawn_call(turn: Turn) -> Call
     requires { turn.stack.height ≤ 8 }
     ensures call { result ≡ drawn_call turn }

@@ -9,7 +9,7 @@ ghost use Rattle.dk_template.specs.Templates.{IsRow, form_of, role_kinds};
 ghost use Rattle.dk_template.specs.declared.templates.StateForm.{StateForm};
 
 use dk_base::{NoMemory, View};
-use dk_template::{RowId, State, join_states, template_at};
+use dk_template::{RowId, State, join_states, rows, template_at};
 use std::alloc::Global;
 
 /// A row's state of one tuple. Only texts want memory.
@@ -20,11 +20,11 @@ pub fn point(alloc: Global, row: RowId, tuple: &[View<'_>]) -> Result<State, NoM
     ensures err { OnErr result (form_of row ≡ StateForm.Texts) }
 {
     let n = row.0;
-    if n <= 10 {
+    if n <= rows::NON_NULL_STR {
         dk_unary::point(alloc, row, tuple)
-    } else if n <= 23 {
+    } else if n <= rows::NE_STR {
         dk_binary::point(alloc, row, tuple)
-    } else if n <= 34 || n == 67 {
+    } else if n <= rows::GCD || n == rows::LINEAR_TERNARY {
         dk_ternary::point(alloc, row, tuple)
     } else {
         dk_sequence::point(alloc, row, tuple)
@@ -51,11 +51,11 @@ pub fn stays(row: RowId, state: &State, tuple: &[View<'_>]) -> bool
     ensures { IsTrue result ↔ (joined (form_of row) state.now (state_of row (values_of tuple.now ∷ [])) ≡ state.now) }
 {
     let n = row.0;
-    if n <= 10 {
+    if n <= rows::NON_NULL_STR {
         dk_unary::stays(row, state, tuple)
-    } else if n <= 23 {
+    } else if n <= rows::NE_STR {
         dk_binary::stays(row, state, tuple)
-    } else if n <= 34 || n == 67 {
+    } else if n <= rows::GCD || n == rows::LINEAR_TERNARY {
         dk_ternary::stays(row, state, tuple)
     } else {
         dk_sequence::stays(row, state, tuple)

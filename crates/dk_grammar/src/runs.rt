@@ -14,7 +14,7 @@ use dk_base::View;
 use dk_binary::binary_row;
 use dk_elements::element_row;
 use dk_pairs::pair_row;
-use dk_template::{RowId, template_at};
+use dk_template::{RowId, rows, template_at};
 use dk_ternary::ternary_row;
 use dk_unary::unary_row;
 
@@ -72,13 +72,13 @@ pub fn first_changed<S: Slot>(row: RowId, run: &[S], sample: &[View<'_>]) -> Opt
     ensures { IsFirstChanged S.vars S.state row (values_of sample.now) run.now result }
 {
     let n = row.0;
-    if n <= 10 {
+    if n <= rows::NON_NULL_STR {
         unary_run(row, run, sample)
-    } else if n <= 23 {
+    } else if n <= rows::NE_STR {
         binary_run(row, run, sample)
-    } else if n <= 34 || n == 67 {
+    } else if n <= rows::GCD || n == rows::LINEAR_TERNARY {
         ternary_run(row, run, sample)
-    } else if n <= 48 || 52 <= n && n <= 56 {
+    } else if n <= rows::ELT_NON_NULL_STR || rows::ELT_EQ <= n && n <= rows::ELT_GE {
         element_run(row, run, sample)
     } else {
         pair_run(row, run, sample)

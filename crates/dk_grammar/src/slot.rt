@@ -8,17 +8,17 @@ use dk_template::State;
 
 /// A slot of a row: variables and the row's state over them.
 pub trait Slot {
-    /// Its variables.
+    /// The slot's variables, by the row's roles.
     ghost vars: { Self → List VarId };
 
-    /// Its state.
+    /// The slot's state.
     ghost state: { Self → State };
 
     /// Its variables, by the row's roles.
     fn vars(&self) -> &[VarId]
         ensures { result.now ≡ vars self.now };
 
-    /// Its state.
+    /// The slot's state.
     fn state(&self) -> &State
         ensures { result.now ≡ state self.now };
 }

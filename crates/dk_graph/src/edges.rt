@@ -44,7 +44,7 @@ impl Model for Edges {
 }
 
 impl Edges {
-    // No points.
+    // Edges between no points.
     pub fn new(alloc: Global) -> Edges
         ensures { result ≡ [] }
     {
@@ -175,7 +175,7 @@ impl Parts {
 }
 
 impl Edges {
-    // The allocator.
+    // Where the edges ask for memory.
     pub fn alloc(&self) -> Global {
         self.alloc
     }

@@ -26,7 +26,7 @@ impl Model for Names {
 }
 
 impl Names {
-    /// No names.
+    /// An index without names.
     pub fn new(alloc: Global) -> Names
         ensures { result ≡ [] }
     {

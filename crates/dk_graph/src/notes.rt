@@ -34,7 +34,7 @@ fn list_of_one(alloc: Global, link: Waiting) -> Result<List<Waiting>, NoMemory>
 }
 
 impl Notes {
-    // No links.
+    // No link waits yet.
     pub fn new(alloc: Global) -> Notes
         ensures { result ≡ [] }
     {

@@ -26,7 +26,7 @@ impl Model for EdgeRow {
 }
 
 impl EdgeRow {
-    // No edges.
+    // A row without edges.
     pub fn new(alloc: Global) -> EdgeRow
         ensures { result ≡ [] }
     {
@@ -35,7 +35,7 @@ impl EdgeRow {
         }
     }
 
-    // The edges.
+    // The edges of the row, in order.
     pub fn as_slice(&self) -> &[Edge]
         ensures { result.now ≡ self.now }
     {

@@ -57,7 +57,7 @@ impl Model for Levels {
 }
 
 impl Levels {
-    /// No ways.
+    /// No way is left.
     pub(crate) fn new(alloc: Global) -> Levels
         ensures { result ≡ [] }
     {

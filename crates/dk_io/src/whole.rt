@@ -31,7 +31,7 @@ pub fn write_all<S: Sinks>(sinks: &mut S, stream: Stream, bytes: &[u8]) -> Resul
 /// Why not all that is left could be read.
 #[derive(Clone, Copy, Debug, PartialEq, Eq, Error)]
 pub enum AllFault {
-    /// Reading failed.
+    /// A read failed.
     #[error("the file could not be read")]
     Read,
     /// More bytes are left than the limit.

@@ -1,5 +1,5 @@
 -- What is noted of leaders with equal numbers.
-use Rattle.std.specs.Prelude.{◌≡◌, ◌<◌, ◌≤◌, ◌&&◌, ℕ, Bool, true, All, List, [], ◌∷◌, Option, Some, None, length, map, option_map, refl, slice_get}
+use Rattle.std.specs.Prelude.{◌≡◌, ◌<◌, ◌≤◌, ◌&&◌, ℕ, Bool, true, List, [], ◌∷◌, Option, Some, map, option_map, refl, slice_get}
 use Rattle.std.proofs.Common.{◌∙◌, ap, arith, get_or, sym}
 use Rattle.std.proofs.lemmas.List.Elements.{All-cons, All-nil}
 use Rattle.std.proofs.lemmas.Option.{slice_get-map}

@@ -7,11 +7,12 @@ use Rattle.dk_engine.specs.Reading.{state_read}
 use Rattle.dk_engine.specs.declared.slot.Slot.{Slot}
 use Rattle.dk_template.specs.Admitted.{admits}
 use Rattle.dk_template.specs.Fitting.{fits}
+use Rattle.dk_template.specs.Numbers as number
 use Rattle.dk_template.specs.declared.grammar.RowId.{RowId}
 
 -- the row that two numbers are equal
 abbrev pub equal_row : RowId
-equal_row = record { 0 = 11 }
+equal_row = record { 0 = number.eq_int }
 
 -- two variables have numbers, and these are equal
 abbrev pub equal_numbers : Whole → VarId → VarId → Bool

@@ -42,7 +42,7 @@ fn is_at_hand(row: RowId, premises: &[Premise], slot: &Slot) -> bool
     slot.row.0 == row.0 || may_meet_one(premises, slot)
 }
 
-// Such slots.
+// The slots of three leaders that a search may meet.
 fn slots_at_hand<'s>(
     alloc: Global,
     slots: &'s [Slot],

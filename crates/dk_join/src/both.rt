@@ -45,7 +45,7 @@ impl<'a> Model for Both<'a> {
 }
 
 impl<'a> Both<'a> {
-    /// The two engines, each with notes of some leaders.
+    /// Two engines that are to be joined, each with notes of some leaders.
     pub(crate) fn of(
         alloc: Global,
         first: &'a Engine,

@@ -45,7 +45,7 @@ impl From<NoMemory> for JoinFault {
     }
 }
 
-// An equal variable.
+// A variable that is equal to this one, in memory of its own.
 fn copy_var(alloc: Global, var: &VarInfo) -> Result<VarInfo, NoMemory>
     ensures { IfOk result (λ copy. copy ≡ var.now) }
 {
@@ -58,7 +58,7 @@ fn copy_var(alloc: Global, var: &VarInfo) -> Result<VarInfo, NoMemory>
     })
 }
 
-// Equal variables.
+// Variables that are equal to these, in memory of their own.
 fn copy_vars(alloc: Global, vars: &[VarInfo]) -> Result<List<VarInfo>, NoMemory>
     ensures { IfOk result (λ copies. copies ≡ vars.now) }
 {

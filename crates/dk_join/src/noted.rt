@@ -7,7 +7,7 @@ ghost use Rattle.dk_template.specs.Premises.{IsUsable, at_role, premise_fits};
 
 use dk_base::{Kind, NoMemory, VarId};
 use dk_engine::{Engine, suited_vars};
-use dk_template::{Answers, Premise, Role, RowId, State, admits};
+use dk_template::{Answers, Premise, Role, RowId, State, admits, rows};
 use std::alloc::Global;
 
 /// An engine, and of some leaders whether two have equal numbers. Of the places nothing is promised: they say where to look.
@@ -27,10 +27,10 @@ fn are_equal(engine: &Engine, v: VarId, w: VarId) -> bool
     ensures { result ≡ equal_numbers engine.now v w }
 {
     let premise = Premise::Holds {
-        row: RowId(11),
+        row: RowId(rows::EQ_INT),
         roles: [0, 1, 0],
     };
-    if !admits(RowId(11), engine.vars(), &[v, w]) {
+    if !admits(RowId(rows::EQ_INT), engine.vars(), &[v, w]) {
         return false;
     }
     engine.premise(&premise, &[v, w])
@@ -176,7 +176,7 @@ impl<'a> Noted<'a> {
     {
         match *premise {
             Premise::Holds { row, roles } => {
-                if row.0 == 11 {
+                if row.0 == rows::EQ_INT {
                     self.told_equal(roles, vars)
                 } else {
                     None

@@ -1,13 +1,11 @@
 // The numbers of constant leaders, by which a row with a relation is Broken.
-ghost use Rattle.std.specs.Prelude.{◌≡◌, ◌<◌, IfSome, length, option_copied};
+ghost use Rattle.std.specs.Prelude.{◌≡◌, ◌<◌, length, option_copied};
 ghost use Rattle.dk_join.specs.Numbers.{are_broken, break_operation, int_in, number_of, numbers_of};
-ghost use Rattle.dk_ternary.specs.Rows.{operation_row};
 
 use crate::constants::known_of;
 use crate::threes::Told;
 use dk_base::{Value, VarId};
 use dk_engine::Engine;
-use dk_template::RowId;
 use dk_ternary::Operation;
 
 // The number that a value is.
@@ -75,26 +73,6 @@ impl Numbered {
             var: self.var,
             number: self.numbers.second,
         }
-    }
-}
-
-/// The operation whose results a row of three numbers says, if it says those of one of these.
-pub(crate) fn operation_of(row: RowId) -> Option<Operation>
-    ensures { IfSome result (λ operation. operation_row operation ≡ row) }
-{
-    match row.0 {
-        24 => Some(Operation::Sum),
-        25 => Some(Operation::Difference),
-        26 => Some(Operation::Product),
-        27 => Some(Operation::Minimum),
-        28 => Some(Operation::Maximum),
-        29 => Some(Operation::Quotient),
-        30 => Some(Operation::Remainder),
-        31 => Some(Operation::And),
-        32 => Some(Operation::Or),
-        33 => Some(Operation::Xor),
-        34 => Some(Operation::Gcd),
-        _ => None,
     }
 }
 

@@ -16,13 +16,13 @@ ghost use Rattle.dk_engine.specs.Parts.{all_known};
 use crate::beside::{Around, Companion, Hands, companions, has_room, is_beside_both, near};
 use crate::both::{Both, Places};
 use crate::constants::are_known;
-use crate::numbers::{Numbered, Numbers, operation_of};
+use crate::numbers::{Numbered, Numbers};
 use dk_base::{List, NoMemory, VarId, VarInfo};
 use dk_constants::Constants;
-use dk_engine::{Slot, suited_vars, suits};
+use dk_engine::{Slot, suited_vars};
 use dk_suppress::suppressed;
 use dk_template::{
-    Answers, Grammar, Role, RowId, State, Takes, Tuple, admits, is_written, template_at,
+    Answers, Grammar, Role, RowId, State, Takes, Tuple, admits, is_written, suits, template_at,
 };
 use dk_ternary::Operation;
 use std::alloc::Global;
@@ -268,7 +268,7 @@ impl<'a> Sweep<'a> {
         ensures { IfOk result (λ more. more ≡ slots ++ behind self.now.both.now.first.infos self.now.known.now (answer_of self.now.both.now) row v leaders.now leaders.now) }
     {
         let beside = self.companions(row, hands, v, leaders)?;
-        let operation = operation_of(row);
+        let operation = Operation::of(row);
         let first = Numbered {
             var: v,
             numbers: Numbers::of(self.both.first(), self.both.second(), v),

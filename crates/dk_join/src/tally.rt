@@ -61,7 +61,7 @@ fn with_pattern(held: Vec<Held>, present: List<VarId>, count: u64) -> Result<Vec
 }
 
 impl Tally {
-    /// No patterns.
+    /// No pattern is counted yet.
     pub(crate) fn new(alloc: Global) -> Tally
         ensures { result ≡ [] }
     {
@@ -98,7 +98,7 @@ impl Tally {
         }
     }
 
-    /// The patterns.
+    /// The patterns with their counts.
     pub(crate) fn into_held(self) -> List<Held>
         ensures all { result ≡ self }
         ensures form { AreHeld self }

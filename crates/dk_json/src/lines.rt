@@ -30,13 +30,13 @@ pub struct Claimed<'a> {
 /// What a text says: a row over variables of a point, and their state.
 #[derive(Clone, Copy, Debug)]
 pub struct Instance<'a> {
-    /// The row.
+    /// The row of the grammar.
     pub row: RowId,
     /// The variables of the point.
     pub infos: &'a [VarInfo],
     /// The variables that the row is over, by role.
     pub vars: &'a [VarId],
-    /// Their state.
+    /// The state of the instance.
     pub state: &'a State,
 }
 

@@ -12,7 +12,7 @@ use crate::relation::{AtMost, Below, Relation};
 pub enum Shift {
     /// The sequences are of different lengths, or two of the differences are not equal.
     Unequal,
-    /// Both are empty.
+    /// Both sequences are empty.
     Empty,
     /// By this, which is above -2^64 and below 2^64.
     Const(i128),

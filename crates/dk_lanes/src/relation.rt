@@ -8,7 +8,7 @@ use crate::blocks::{BLOCK, Lanes};
 /// A relation of two numbers.
 #[derive(Clone, Copy, Debug, PartialEq, Eq)]
 pub enum Rel {
-    /// They are equal.
+    /// Both numbers are equal.
     Eq,
     /// The first is below the second.
     Lt,

@@ -1,5 +1,6 @@
 -- The tables of all rows.
 use Rattle.std.specs.Prelude.{◌==◌, ◌||◌, ℕ, Bool, List, [], codes, slice_index_or, if◌then◌else◌}
+use Rattle.dk_template.specs.Numbers as number
 use Rattle.dk_template.specs.declared.grammar.RowId.{RowId}
 use Rattle.dk_languages.specs.declared.languages.Language.{Language}
 use Rattle.dk_languages.specs.declared.languages.Language.TheVariants as language
@@ -18,7 +19,7 @@ row_in l row = slice_index_or (rows_in l) row.0 []
 
 -- a row lists the values of the elements of a sequence
 abbrev pub is_of_elements : RowId → Bool
-is_of_elements row = row.0 == 35 || (row.0 == 44 || row.0 == 47)
+is_of_elements row = row.0 == number.elt_one_of_int || (row.0 == number.elt_one_of_bool || row.0 == number.elt_one_of_str)
 
 -- What is said of each value that a row lists, with the hole K for the value. SMT-LIB has no lists: there x, or the element i of s, is the
 -- value.

@@ -5,9 +5,9 @@ ghost use Rattle.dk_languages.specs.Escapes.{after_escape, has_known_escapes, is
 /// Where a byte of a string stands.
 #[derive(Clone, Copy, Debug, PartialEq, Eq)]
 pub enum Escape {
-    /// In no escape.
+    /// The byte stands outside of all escapes.
     Outside,
-    /// Behind a backslash.
+    /// The byte stands after a backslash.
     Behind,
     /// Where two more octal digits belong to the escape.
     TwoDigits,

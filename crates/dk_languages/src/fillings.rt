@@ -8,7 +8,7 @@ use std::alloc::Global;
 /// What stands for a letter of a text with holes.
 #[derive(Debug, Drop)]
 pub struct Filling {
-    /// The letter.
+    /// The letter of the hole.
     pub letter: u8,
     /// What stands for it.
     pub text: Text,

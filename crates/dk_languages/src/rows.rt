@@ -3,7 +3,7 @@ ghost use Rattle.std.specs.Prelude.{◌≡◌, map};
 ghost use Rattle.dk_languages.specs.Rows.{is_of_elements, row_in, rows_in, separator_in, value_in};
 
 use crate::{Language, c, python, smtlib};
-use dk_template::RowId;
+use dk_template::{RowId, rows};
 
 fn rows_in(language: Language) -> &'static [&'static str]
     ensures { map (λ row. row.now) result.now ≡ rows_in language }
@@ -29,7 +29,7 @@ pub(crate) fn row_in(language: Language, row: RowId) -> &'static str
 fn is_of_elements(row: RowId) -> bool
     ensures { result ≡ is_of_elements row }
 {
-    row.0 == 35 || row.0 == 44 || row.0 == 47
+    row.0 == rows::ELT_ONE_OF_INT || row.0 == rows::ELT_ONE_OF_BOOL || row.0 == rows::ELT_ONE_OF_STR
 }
 
 /// What is said of each value that a row lists, with a hole for the value.

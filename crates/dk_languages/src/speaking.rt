@@ -11,7 +11,7 @@ use std::alloc::Global;
 /// A variable in a language. In C and SMT-LIB a sequence is the elements of `value` from `start` on and before `end`.
 #[derive(Debug, Drop)]
 pub(crate) struct Spoken {
-    /// Its value.
+    /// The variable's value.
     pub(crate) value: Text,
     /// The place of a sequence's first element.
     pub(crate) start: Text,

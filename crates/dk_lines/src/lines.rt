@@ -40,7 +40,7 @@ pub struct Line<'a> {
 /// Why there is no next line.
 #[derive(Clone, Copy, Debug, PartialEq, Eq, Error)]
 pub enum LineFault {
-    /// Reading failed.
+    /// A read failed.
     #[error("the file could not be read")]
     Read,
     /// This line has more bytes in front of its LF than a line may have.

@@ -16,7 +16,8 @@ use Rattle.dk_driver.specs.Files.{AreHeldFiles, FaultAt, ended_file, file_name_a
 use Rattle.dk_driver.specs.Reads.{AtStart, Break, HasBroken, Within, held_file_at}
 use Rattle.dk_program.specs.Moments.{Outside}
 use Rattle.dk_run.specs.Commands.{helds_of}
-use Rattle.dk_run.specs.Courses.{course_of, course_of_file, course_of_files, fault_in, first_start, then_files, total_limit}
+use Rattle.dk_driver.specs.Trails.{fault_in, then_files, total_limit, trail_of_file, trail_of_files}
+use Rattle.dk_run.specs.Courses.{course_of, first_start}
 use Rattle.dk_run.specs.Outputs.{output_at, output_of}
 use Rattle.dk_run.specs.Statuses.{ComesTo, IsCutShort, IsUnread, Says}
 use Rattle.dk_events.specs.declared.ended.Ended.{Ended}
@@ -30,8 +31,8 @@ use Rattle.dk_merge.specs.Running.{TurnsEnd, status_over}
 -- its first fault is that of the file
 pub first_file : (text : List ℕ) (fault : FaultAt) → turns_fault text ≡ Some fault → fault.file ≡ 0
 unfolding course_of
-first_file text fault e = by (course_of_file false total_limit no_history (ended_file text)).end e where
-  by : (r : Result History LineFault) → fault_in (then_files 0 r (λ next. course_of_files false (total_limit - length text) (file_ended next) (0 + 1) [])).end ≡ Some fault → fault.file ≡ 0
+first_file text fault e = by (trail_of_file false total_limit no_history 0 (ended_file text)).end e where
+  by : (r : Result History LineFault) → fault_in (then_files 0 r (λ next. trail_of_files false (total_limit - length text) (file_ended next) (0 + 1) [])).end ≡ Some fault → fault.file ≡ 0
   by (Ok h) e = absurd (cc e)
   by (Err l) e = let same : record { file = 0; line = l.line; why = l.why } ≡ fault = cc e in ap (λ (f : FaultAt). f.file) (sym same)
 

@@ -15,13 +15,13 @@ pub enum Group {
     NeverNull,
     /// A remainder, or that a number divides another.
     Remainders,
-    /// Equal variables.
+    /// Two variables that are equal.
     Equal,
     /// Variables that are never equal.
     NeverEqual,
     /// Numbers of which one is never greater.
     Ordered,
-    /// Linear equations.
+    /// Linear equations over two or three variables.
     Linear,
     /// A number that is computed of one or two others.
     Arithmetic,
@@ -29,7 +29,7 @@ pub enum Group {
     Elements,
     /// The order in which elements stand.
     Order,
-    /// Members and subsets.
+    /// Members of sequences, and sequences whose elements another has.
     Membership,
     /// Two sequences, element by element.
     Elementwise,

@@ -191,7 +191,7 @@ pub(crate) fn middle() -> &'static str
     MIDDLE
 }
 
-/// Behind the sections.
+/// What stands after the sections.
 #[tactic(auto, unfolding(crate::specs::Parts::foot))]
 pub(crate) fn foot() -> &'static str
     ensures { result.now ≡ foot }

@@ -17,6 +17,7 @@ use Rattle.dk_pairs.specs.declared.subsets.Subset.{Subset}
 use Rattle.dk_pairs.specs.declared.subsets.Subset.TheVariants as subset
 use Rattle.dk_rows.specs.Laws.{is_row}
 use Rattle.dk_rows.specs.Relations.{are_pairwise, is_member, is_reverse, is_subset}
+use Rattle.dk_template.specs.Numbers as number
 use Rattle.dk_template.specs.declared.grammar.RowId.{RowId}
 
 -- a row of an element and a sequence, or of two sequences
@@ -25,9 +26,9 @@ IsPair r = ((49 ≤ r.0) × (r.0 ≤ 51)) ⊎ (((57 ≤ r.0) × (r.0 ≤ 66)) �
 
 -- ---- the first value is an element of the second
 abbrev pub member_row : Member → RowId
-member_row member.Int = record { 0 = 49 }
-member_row member.Hash = record { 0 = 50 }
-member_row member.Str = record { 0 = 51 }
+member_row member.Int = record { 0 = number.member_int }
+member_row member.Hash = record { 0 = number.member_hash }
+member_row member.Str = record { 0 = number.member_str }
 
 abbrev pub element_kind : Member → Kind
 element_kind member.Int = kind.Int
@@ -51,10 +52,10 @@ member_is_row member.Str = refl
 
 -- ---- the two sequences are equal
 abbrev pub equal_row : EqualSequences → RowId
-equal_row equal.Int = record { 0 = 57 }
-equal_row equal.Bool = record { 0 = 58 }
-equal_row equal.Hash = record { 0 = 59 }
-equal_row equal.Str = record { 0 = 60 }
+equal_row equal.Int = record { 0 = number.eq_int_seq }
+equal_row equal.Bool = record { 0 = number.eq_bool_seq }
+equal_row equal.Hash = record { 0 = number.eq_hash_seq }
+equal_row equal.Str = record { 0 = number.eq_str_seq }
 
 abbrev pub equal_kind : EqualSequences → Kind
 equal_kind equal.Int = kind.IntSeq
@@ -76,9 +77,9 @@ equal_is_row equal.Str = refl
 
 -- ---- two sequences of numbers, element by element
 abbrev pub partners_row : Partners → RowId
-partners_row partners.Less = record { 0 = 61 }
-partners_row partners.AtMost = record { 0 = 62 }
-partners_row partners.Reversed = record { 0 = 66 }
+partners_row partners.Less = record { 0 = number.pair_lt }
+partners_row partners.AtMost = record { 0 = number.pair_le }
+partners_row partners.Reversed = record { 0 = number.reverse }
 
 abbrev pub are_related : Partners → List ℤ → List ℤ → Bool
 are_related partners.Less s t = are_pairwise int_lt s t
@@ -92,9 +93,9 @@ partners_is_row partners.Reversed = refl
 
 -- ---- each element of the first sequence is one of the second
 abbrev pub subset_row : Subset → RowId
-subset_row subset.Int = record { 0 = 63 }
-subset_row subset.Hash = record { 0 = 64 }
-subset_row subset.Str = record { 0 = 65 }
+subset_row subset.Int = record { 0 = number.subset_int }
+subset_row subset.Hash = record { 0 = number.subset_hash }
+subset_row subset.Str = record { 0 = number.subset_str }
 
 abbrev pub subset_kind : Subset → Kind
 subset_kind subset.Int = kind.IntSeq
@@ -113,7 +114,7 @@ subset_is_row subset.Str = refl
 
 -- ---- the offset
 abbrev pub offset_row : RowId
-offset_row = record { 0 = 68 }
+offset_row = record { 0 = number.pair_offset }
 
 pub offset_is_row : IsTrue (is_row offset_row)
 offset_is_row = refl

@@ -10,7 +10,7 @@ use crate::rows::join;
 use dk_base::{NoMemory, View, bools_at, hashes_at, ints_at, texts_at};
 use dk_forms::{plain_point, plain_stays};
 use dk_lanes::{Rel, pairwise};
-use dk_template::{Row, RowId, State};
+use dk_template::{Row, RowId, State, rows};
 use std::alloc::Global;
 
 /// That two sequences of elements of one kind are equal.
@@ -42,10 +42,10 @@ impl EqualSequences {
         ensures { result ≡ equal_row self }
     {
         RowId(match self {
-            EqualSequences::Int => 57,
-            EqualSequences::Bool => 58,
-            EqualSequences::Hash => 59,
-            EqualSequences::Str => 60,
+            EqualSequences::Int => rows::EQ_INT_SEQ,
+            EqualSequences::Bool => rows::EQ_BOOL_SEQ,
+            EqualSequences::Hash => rows::EQ_HASH_SEQ,
+            EqualSequences::Str => rows::EQ_STR_SEQ,
         })
     }
 

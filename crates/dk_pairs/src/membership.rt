@@ -9,7 +9,7 @@ ghost use Rattle.dk_template.specs.Rows.{IsTuple};
 use crate::rows::join;
 use dk_base::{NoMemory, View, hash_at, hashes_at, int_at, ints_at, text_at, texts_at};
 use dk_forms::{plain_point, plain_stays};
-use dk_template::{Row, RowId, State};
+use dk_template::{Row, RowId, State, rows};
 use std::alloc::Global;
 
 /// That a number, a hash code or a string is an element of a sequence.
@@ -40,9 +40,9 @@ impl Member {
         ensures { result ≡ member_row self }
     {
         RowId(match self {
-            Member::Int => 49,
-            Member::Hash => 50,
-            Member::Str => 51,
+            Member::Int => rows::MEMBER_INT,
+            Member::Hash => rows::MEMBER_HASH,
+            Member::Str => rows::MEMBER_STR,
         })
     }
 

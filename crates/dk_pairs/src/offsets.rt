@@ -11,7 +11,7 @@ use crate::rows::join;
 use dk_base::{NoMemory, View, ints_at};
 use dk_forms::offset_stays;
 use dk_lanes::{Shift, offset};
-use dk_template::{Row, RowId, State};
+use dk_template::{Row, RowId, State, rows};
 use std::alloc::Global;
 
 /// By how much each element of the second sequence is above the first's at its place, where it is the same everywhere.
@@ -23,7 +23,7 @@ impl PairOffset {
     pub fn row(self) -> RowId
         ensures { result ≡ offset_row }
     {
-        RowId(68)
+        RowId(rows::PAIR_OFFSET)
     }
 }
 

@@ -12,7 +12,7 @@ use crate::rows::join;
 use dk_base::{NoMemory, View, ints_at};
 use dk_forms::{plain_point, plain_stays};
 use dk_lanes::{Rel, pairwise};
-use dk_template::{Row, RowId, State};
+use dk_template::{Row, RowId, State, rows};
 use std::alloc::Global;
 
 /// A relation of two sequences of numbers of one length, element by element.
@@ -39,9 +39,9 @@ impl Partners {
         ensures { result ≡ partners_row self }
     {
         RowId(match self {
-            Partners::Less => 61,
-            Partners::AtMost => 62,
-            Partners::Reversed => 66,
+            Partners::Less => rows::PAIR_LT,
+            Partners::AtMost => rows::PAIR_LE,
+            Partners::Reversed => rows::REVERSE,
         })
     }
 

@@ -12,7 +12,7 @@ use crate::rows::join;
 use dk_base::{NoMemory, View, hashes_at, ints_at, texts_at};
 use dk_forms::{plain_point, plain_stays};
 use dk_lanes::member;
-use dk_template::{Row, RowId, State};
+use dk_template::{Row, RowId, State, rows};
 use std::alloc::Global;
 
 /// That each element of a sequence of numbers, hash codes or strings is one of another, however often. It takes no memory, and so
@@ -51,9 +51,9 @@ impl Subset {
         ensures { result ≡ subset_row self }
     {
         RowId(match self {
-            Subset::Int => 63,
-            Subset::Hash => 64,
-            Subset::Str => 65,
+            Subset::Int => rows::SUBSET_INT,
+            Subset::Hash => rows::SUBSET_HASH,
+            Subset::Str => rows::SUBSET_STR,
         })
     }
 

@@ -15,7 +15,7 @@ pub enum Role {
     Combined,
     /// A subexit, whose tag is `EXIT` and one digit or more.
     Subexit,
-    /// Any other point.
+    /// Neither an entry nor an exit.
     Plain,
 }
 

@@ -9,7 +9,7 @@ use dk_template::RowId;
 /// A part of a text. The roles of a row are counted from 0.
 #[derive(Clone, Copy, Debug)]
 pub enum Part {
-    /// These bytes.
+    /// Bytes that stand in the text as they are.
     Word(&'static [u8]),
     /// The name of the variable at this role.
     Named(usize),
@@ -21,7 +21,7 @@ pub enum Part {
     NullOr(&'static [u8]),
     /// The remainder of a modulus.
     Remainder,
-    /// The modulus.
+    /// The modulus of a remainder.
     Modulus,
     /// The first term of a line or a plane: the variable at this role with its factor.
     Lead(usize),

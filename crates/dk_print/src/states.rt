@@ -14,7 +14,7 @@ pub(crate) fn bound_in(state: &State) -> i64
     }
 }
 
-/// The hash code.
+/// The hash code that the state holds.
 pub(crate) fn code_in(state: &State) -> u64
     ensures { result ≡ code_in state.now }
 {
@@ -24,7 +24,7 @@ pub(crate) fn code_in(state: &State) -> u64
     }
 }
 
-/// The modulus.
+/// The modulus that the state holds.
 pub(crate) fn modulus_in(state: &State) -> u64
     ensures { result ≡ modulus_in state.now }
 {
@@ -44,7 +44,7 @@ pub(crate) fn remainder_in(state: &State) -> u64
     }
 }
 
-/// The offset.
+/// The offset that the state holds.
 pub(crate) fn offset_in(state: &State) -> i128
     ensures { result ≡ offset_in state.now }
 {

@@ -62,7 +62,7 @@ impl Halt {
     }
 }
 
-/// Writes a text.
+/// Writes a text to a stream, or says why the run halts.
 pub fn write<S: Sinks>(sinks: &mut S, stream: Stream, text: &[u8]) -> Result<(), Halt>
     ensures { WritesText stream text.now (S.written sinks.old) (S.written sinks.new) (S.faults sinks.old) (S.faults sinks.new) result }
 {

@@ -1,14 +1,15 @@
 -- A text as the only file of a run.
-use Rattle.std.proofs.Common.{◌≡◌, ◌<◌, ◌+◌, ◌-◌, ℕ, Bool, false, true, List, [], ◌∷◌, ◌++◌, flat_map, length, map, Some, Result, Ok, Err, refl, sym, ap, ◌∙◌, subst}
-use Rattle.dk_base.specs.Reading.{LineFault, Reads, ◌>>=◌}
+use Rattle.std.proofs.Common.{◌≡◌, ◌<◌, ◌+◌, ◌-◌, ℕ, Bool, false, true, List, [], ◌∷◌, ◌++◌, flat_map, length, map, Result, Ok, Err, refl, sym, ap, ◌∙◌, subst}
+use Rattle.dk_base.specs.Reading.{LineFault}
 use Rattle.dk_decl.specs.Headers.{awaits_word, is_implicit}
 use Rattle.dk_lines.specs.Left.{lined}
 use Rattle.dk_points.specs.Table.{Point}
-use Rattle.dk_blocks.specs.Blocks.{Group, Groups, Last, groups_of}
-use Rattle.dk_blocks.specs.History.{History, Taken, effect_of, file_ended, no_history}
-use Rattle.dk_blocks.specs.Reading.{after_all, after_last}
+use Rattle.dk_blocks.specs.Blocks.{groups_of}
+use Rattle.dk_blocks.specs.History.{History, effect_of, file_ended, no_history}
+use Rattle.dk_driver.proofs.Trails.{trail_ends}
 use Rattle.dk_driver.specs.Files.{FaultAt}
-use Rattle.dk_run.specs.Courses.{Course, Outset, course_end, course_of, course_of_files, course_of_groups, first_start, goes_on, line_limit, then_files}
+use Rattle.dk_driver.specs.Trails.{Outset, Trail, line_limit, then_files, trail_of_files}
+use Rattle.dk_run.specs.Courses.{course_of, first_start}
 use Rattle.dk_turns.specs.Blocks.{Block, sample_blocks}
 use Rattle.dk_turns.specs.Turns.{in_rounds, turns_of}
 use Rattle.dk_recorders.specs.Laws.{AreAlike, ComesToAlike, OrderOfBlocksDoesNotMatter, OrderOfRecordsDoesNotMatter, TurnsDoNotMatter, history_behind, history_of}
@@ -18,19 +19,6 @@ use Rattle.dk_recorders.proofs.Telling.{order_of_own_samples}
 use Rattle.dk_recorders.proofs.Mixed.{Alike, mixed_blocks}
 use Rattle.dk_recorders.proofs.Ordered.{ordered_text, read_text}
 use Rattle.dk_recorders.proofs.Rounds.{in_rounds_interleave, one_by_one_interleave}
-
-course_ends : (ignores : Bool) (read : Reads Taken) (g : Groups) → (course_of_groups ignores read g).end ≡ after_all ignores read g
-course_ends ignores read (Group ls close rest) = by (read ls (Some close)) (λ next. course_ends ignores next rest)
-  where
-    by : (r : Result Taken LineFault) → ((next : Reads Taken) → (course_of_groups ignores next rest).end ≡ after_all ignores next rest)
-        → (goes_on r (λ h. course_of_groups ignores (effect_of ignores h) rest)).end ≡ (r >>= λ t. after_all ignores (effect_of ignores t.history) rest)
-    by (Ok t) more = more (effect_of ignores t.history)
-    by (Err fault) more = refl
-course_ends ignores read (Last ls end) = by (after_last read ls end)
-  where
-    by : (r : Result Taken LineFault) → (goes_on r (λ h. course_end (Ok h))).end ≡ (r >>= λ t. Ok t.history)
-    by (Ok t) = refl
-    by (Err fault) = refl
 
 -- what a run over one file comes to
 abbrev of_file : Result History LineFault → Result History FaultAt
@@ -42,13 +30,13 @@ history_is : (start : Outset) (ignores : Bool) (text : List ℕ)
 unfolding course_of
 history_is start ignores text =
     ap (λ (r : Result History LineFault). (then_files 0 r after).end)
-    (course_ends ignores (effect_of ignores start.history) (groups_of (lined line_limit start.room 0 true text)))
+    (trail_ends ignores 0 (effect_of ignores start.history) (groups_of (lined line_limit start.room 0 true text)))
     ∙ by (read_text ignores line_limit start.room start.history text)
   where
-    after : History → Course FaultAt
-    after next = course_of_files ignores (start.room - length text) (file_ended next) (0 + 1) []
+    after : History → Trail FaultAt
+    after next = trail_of_files ignores (start.room - length text) (file_ended next) (0 + 1) []
 
-    by : (r : Result History LineFault) → (then_files 0 r (λ next. course_of_files ignores (start.room - length text) (file_ended next) (0 + 1) [])).end ≡ of_file r
+    by : (r : Result History LineFault) → (then_files 0 r (λ next. trail_of_files ignores (start.room - length text) (file_ended next) (0 + 1) [])).end ≡ of_file r
     by (Ok h) = refl
     by (Err fault) = refl
 

@@ -10,7 +10,7 @@ use crate::tuples::{tuple_at, tuples};
 use dk_base::{NoMemory, VarId};
 use dk_template::{Answers, RowId, admits, info};
 
-// Compares an answer.
+// Compares the engine's answer with that of the listed samples.
 fn compare_answer(
     both: &Both<'_, '_>,
     row: RowId,
@@ -49,7 +49,7 @@ pub fn compare_answers(both: &Both<'_, '_>, tally: &mut Tally) -> Result<(), NoM
     Ok(())
 }
 
-// Compares a count.
+// Compares the engine's count with that of the listed samples.
 fn compare_count(both: &Both<'_, '_>, vars: &[VarId], tally: &mut Tally)
     requires few { length vars.now ≤ 3 }
     requires there { AreThere both.now.listed.infos vars.now }

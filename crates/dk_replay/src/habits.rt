@@ -17,7 +17,7 @@ pub struct Habits {
 /// How one value is drawn.
 #[derive(Clone, Copy)]
 pub enum Draw {
-    /// The missing one.
+    /// The variable is missing.
     Missing,
     /// What the variable had in the sample before.
     Still,

@@ -119,19 +119,19 @@ impl<'a, 'v> Listed<'a, 'v> {
         }
     }
 
-    /// The allocator.
+    /// Where memory is asked for.
     pub fn alloc(&self) -> Global {
         self.alloc
     }
 
-    /// The grammar.
+    /// The grammar by which the samples are asked.
     pub fn grammar(&self) -> Grammar
         ensures { result ≡ self.now.grammar }
     {
         self.grammar
     }
 
-    /// The variables.
+    /// The variables of the point.
     pub fn vars(&self) -> &[VarInfo]
         ensures { result.now ≡ self.now.infos }
     {
@@ -146,7 +146,7 @@ impl<'a, 'v> Listed<'a, 'v> {
         self.infos.len() as u32
     }
 
-    /// The samples.
+    /// The samples, as they came.
     pub fn samples(&self) -> &[List<View<'v>>]
         ensures samples { samples_of result.now ≡ self.now.samples }
         ensures each { All (IsSample self.now.infos) (samples_of result.now) }

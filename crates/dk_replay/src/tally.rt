@@ -14,7 +14,7 @@ pub struct Tally {
 }
 
 impl Tally {
-    /// Nothing.
+    /// Nothing has been compared yet.
     pub fn new() -> Tally {
         Tally {
             samples: 0,

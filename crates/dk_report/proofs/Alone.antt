@@ -7,6 +7,7 @@ use Rattle.dk_base.specs.declared.values.Value.{Value}
 use Rattle.dk_engine.specs.Levels.{Whole}
 use Rattle.dk_filters.specs.Answers.{Parent}
 use Rattle.dk_filters.specs.Candidates.{candidates_kept, candidates_of}
+use Rattle.dk_filters.specs.Facts.{is_equality}
 use Rattle.dk_filters.specs.Laws.{ShowTheSame}
 use Rattle.dk_filters.specs.declared.found.PointFacts.{PointFacts}
 use Rattle.dk_fits.proofs.Listing.{row_of_grammar}
@@ -23,7 +24,7 @@ use Rattle.dk_report.proofs.Sole.{admitted_too, kept_is, stands_for}
 use Rattle.dk_report.proofs.Telling.{tells_of}
 use Rattle.dk_report.specs.Asked.{AreStanding, CanBeAsked, candidates_over, here_of, listed_candidates_by, vars_for_row, vars_with_enough, views_of}
 use Rattle.dk_report.specs.Keeping.{keeps}
-use Rattle.dk_report.specs.Listing.{is_equality, listed_candidates_of_row, may_equal, may_lead, may_stand}
+use Rattle.dk_report.specs.Listing.{listed_candidates_of_row, may_equal, may_lead, may_stand}
 use Rattle.dk_report.specs.Narrowing.{CanNarrow, candidates_left, candidates_of_kept, fixed_vars, is_narrow}
 use Rattle.dk_report.specs.Sweeps.{equal_takes}
 use Rattle.dk_report.specs.declared.asking.Asking.{Asking}

@@ -5,9 +5,11 @@ use Rattle.std.proofs.lemmas.Bool.{and_parts}
 use Rattle.std.proofs.lemmas.List.Elements.{All-append, All-cons, All-contains_itself, All-filter, All-nil}
 use Rattle.dk_base.specs.declared.kinds.VarId.{VarId}
 use Rattle.dk_base.specs.declared.kinds.VarInfo.{VarInfo}
+use Rattle.dk_engine.specs.Suited.{suited_vars}
 use Rattle.dk_filters.proofs.Ascending.{candidates_are}
 use Rattle.dk_filters.specs.Answers.{Answers, Parent}
 use Rattle.dk_filters.specs.Candidates.{candidate_of, candidates_of, it_holds, candidates_kept}
+use Rattle.dk_filters.specs.Facts.{is_equality}
 use Rattle.dk_filters.specs.declared.candidate.Candidate.{Candidate}
 use Rattle.dk_fits.proofs.Listing.{row_of_grammar}
 use Rattle.dk_fits.specs.Instances.{IsInstance, is_asked, rows_of}
@@ -21,9 +23,9 @@ use Rattle.dk_engine.specs.declared.kept.Kept.{Kept}
 use Rattle.dk_engine.specs.declared.slot.Slot.{Slot}
 use Rattle.dk_report.specs.Asked.{candidates_equal, candidates_over, candidates_standing, here_of, listed_candidates_by, vars_for_row, views_of}
 use Rattle.dk_report.specs.Keeping.{keeps}
-use Rattle.dk_report.specs.Listing.{is_equality, is_listed, listed_candidates, may_equal}
+use Rattle.dk_report.specs.Listing.{is_listed, listed_candidates, may_equal}
 use Rattle.dk_report.specs.Narrowing.{candidates_left, candidates_of_kept, candidates_of_slots, is_left, is_narrow, is_of_row, lacks_role}
-use Rattle.dk_report.specs.Sweeps.{behind, equal_takes, equals, over_takes, seconds, suited_vars, thirds}
+use Rattle.dk_report.specs.Sweeps.{behind, equal_takes, equals, over_takes, seconds, thirds}
 use Rattle.dk_report.specs.declared.asking.Asking.{Asking}
 use Rattle.dk_report.specs.declared.options.Options.{Options}
 use Rattle.dk_report.specs.declared.sweeping.Standing.{Standing}

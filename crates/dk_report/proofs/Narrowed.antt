@@ -17,7 +17,7 @@ use Rattle.dk_engine.specs.declared.slot.Slot.{Slot}
 use Rattle.dk_filters.proofs.Asked.{admitted-there, facts_are_of_what_may_be_asked}
 use Rattle.dk_filters.specs.Answers.{Answers, Parent}
 use Rattle.dk_filters.specs.Candidates.{candidate_of, it_holds}
-use Rattle.dk_filters.specs.Facts.{facts_of, has_sharper, is_sum_plane}
+use Rattle.dk_filters.specs.Facts.{facts_of, has_sharper, is_equality, is_sum_plane}
 use Rattle.dk_filters.specs.Found.{first_in, found_of}
 use Rattle.dk_filters.specs.Laws.{ShowTheSame, TellTheSame}
 use Rattle.dk_filters.specs.OfSamples.{answers_of}
@@ -49,7 +49,7 @@ use Rattle.dk_report.proofs.Passing.{no-equality, passed, unlisted}
 use Rattle.dk_report.proofs.Rows.{enough_vars, is_enough, of_takes, over_all, over_lists, over_standing, scarce_fails, some-role, standing_vars, twice_suffices}
 use Rattle.dk_report.proofs.SlotsCount.{Place, before-one-way, place_of}
 use Rattle.dk_report.specs.Keeping.{drops, keeps}
-use Rattle.dk_report.specs.Listing.{is_equality, is_listed, listed_candidates, listed_candidates_of_row, may_lead, may_stand}
+use Rattle.dk_report.specs.Listing.{is_listed, listed_candidates, listed_candidates_of_row, may_lead, may_stand}
 use Rattle.dk_report.specs.Narrowing.{all_lead, is_fixed, is_left, is_narrow, is_of_row, lacks_role, suits_none}
 use Rattle.dk_report.specs.declared.options.Options.{Options}
 

@@ -11,7 +11,7 @@ use Rattle.dk_filters.proofs.Asked.{admitted-there}
 use Rattle.dk_filters.proofs.FromFound.{constants_found, members_found}
 use Rattle.dk_filters.specs.Answers.{Answers, Parent}
 use Rattle.dk_filters.specs.Candidates.{candidate_of, it_holds}
-use Rattle.dk_filters.specs.Facts.{facts_of, first_like, has_few_samples, tells_member_by}
+use Rattle.dk_filters.specs.Facts.{facts_of, first_like, has_few_samples, is_equality, tells_member_by}
 use Rattle.dk_filters.specs.Found.{first_in, found_of, one_value_in}
 use Rattle.dk_filters.specs.declared.facts.Facts.{Facts}
 use Rattle.dk_fits.proofs.Members.{is_in}
@@ -22,7 +22,7 @@ use Rattle.dk_template.specs.Admitted.{admits, is_written}
 use Rattle.dk_template.specs.declared.grammar.RowId.{RowId}
 use Rattle.dk_report.proofs.Falling.{CountsFall}
 use Rattle.dk_report.specs.Keeping.{drops, keeps}
-use Rattle.dk_report.specs.Listing.{is_equality, is_listed, listed_candidates, may_equal, may_lead, may_stand}
+use Rattle.dk_report.specs.Listing.{is_listed, listed_candidates, may_equal, may_lead, may_stand}
 use Rattle.dk_report.specs.declared.options.Options.{Options}
 
 -- ---- facts that drop

@@ -3,7 +3,9 @@ use Rattle.std.specs.Prelude.{◌≡◌, ◌&&◌, ◌==◌, ◌<◌, ℕ, Bool,
 use Rattle.std.proofs.Common.{ap, arith, ◌∙◌, inl, inr, subst, sym}
 use Rattle.std.proofs.lemmas.Bool.{and_cases, and_left, and_right, cases_Bool, eqb-false, eqb-true, lt-ltb}
 use Rattle.dk_base.specs.declared.kinds.VarId.{VarId}
+use Rattle.dk_engine.specs.Suited.{suited_vars}
 use Rattle.dk_filters.specs.Answers.{Answers, Parent}
+use Rattle.dk_filters.specs.Facts.{is_equality}
 use Rattle.dk_filters.specs.Found.{first_in, found_of}
 use Rattle.dk_filters.specs.declared.candidate.Candidate.{Candidate}
 use Rattle.dk_fits.specs.Instances.{all_vars, tuples_over}
@@ -17,8 +19,8 @@ use Rattle.dk_template.specs.declared.templates.Takes.TheVariants.{One, Two, Thr
 use Rattle.dk_report.proofs.FlatMaps.{flat_map-filter, flat_map-same, over_one, over_three, over_two}
 use Rattle.dk_report.proofs.Falling.{CountsFall}
 use Rattle.dk_report.proofs.Passing.{no-equality, passed, passed-scarce, unadmitted, unequal, unled}
-use Rattle.dk_report.specs.Listing.{is_equality, listed_candidates, listed_candidates_of_row, may_equal, may_lead, may_stand}
-use Rattle.dk_report.specs.Sweeps.{behind, equal_takes, equals, firsts, over_takes, pairs, seconds, suited_vars, thirds, triples}
+use Rattle.dk_report.specs.Listing.{listed_candidates, listed_candidates_of_row, may_equal, may_lead, may_stand}
+use Rattle.dk_report.specs.Sweeps.{behind, equal_takes, equals, firsts, over_takes, pairs, seconds, thirds, triples}
 use Rattle.dk_report.specs.declared.options.Options.{Options}
 
 -- ---- the variables that may stand in what is kept

@@ -3,6 +3,7 @@ use Rattle.std.specs.Prelude.{◌≡◌, false, true, List, filter, flat_map, if
 use Rattle.std.proofs.Common.{◌∙◌, ap, sym}
 use Rattle.dk_base.specs.declared.kinds.VarId.{VarId}
 use Rattle.dk_filters.specs.Candidates.{candidates_kept, candidates_of}
+use Rattle.dk_filters.specs.Facts.{is_equality}
 use Rattle.dk_filters.specs.declared.found.PointFacts.{PointFacts}
 use Rattle.dk_fits.specs.Instances.{rows_of}
 use Rattle.dk_template.specs.Templates.{template_of}
@@ -14,7 +15,7 @@ use Rattle.dk_report.proofs.Instances.{row_by_row}
 use Rattle.dk_report.proofs.Rows.{over_standing}
 use Rattle.dk_report.specs.Asked.{AreStanding, CanBeAsked, candidates_over, candidates_standing, here_of, listed_candidates_by, vars_for_row, vars_with_enough, views_of}
 use Rattle.dk_report.specs.Keeping.{keeps}
-use Rattle.dk_report.specs.Listing.{is_equality, listed_candidates_of_row, may_equal, may_lead, may_stand}
+use Rattle.dk_report.specs.Listing.{listed_candidates_of_row, may_equal, may_lead, may_stand}
 use Rattle.dk_report.specs.Sweeps.{equal_takes}
 use Rattle.dk_report.specs.declared.asking.Asking.{Asking}
 use Rattle.dk_report.specs.declared.sweeping.Standing.{Standing}

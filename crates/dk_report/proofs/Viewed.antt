@@ -11,6 +11,7 @@ use Rattle.dk_engine.specs.Parts.{leader_of, leaders_of}
 use Rattle.dk_engine.specs.Reading.{read_leaders, state_read}
 use Rattle.dk_filters.specs.Answers.{Answers, Parent}
 use Rattle.dk_filters.specs.Candidates.{candidate_of, candidates_kept, candidates_of, it_holds}
+use Rattle.dk_filters.specs.Facts.{is_equality}
 use Rattle.dk_filters.specs.Found.{first_in, found_of}
 use Rattle.dk_filters.specs.declared.candidate.Candidate.{Candidate}
 use Rattle.dk_filters.specs.declared.found.PointFacts.{PointFacts}
@@ -58,7 +59,7 @@ use Rattle.dk_report.proofs.Swept.{row_swept}
 use Rattle.dk_report.proofs.Told.{all-tell, pair_of, row-at}
 use Rattle.dk_report.specs.Asked.{AreStanding, CanBeAsked, candidates_over, candidates_standing, here_of, vars_with_enough, views_of}
 use Rattle.dk_report.specs.Keeping.{keeps}
-use Rattle.dk_report.specs.Listing.{is_equality, is_listed, listed_candidates, listed_candidates_of_row, may_stand}
+use Rattle.dk_report.specs.Listing.{is_listed, listed_candidates, listed_candidates_of_row, may_stand}
 use Rattle.dk_report.specs.Narrowing.{is_narrow}
 use Rattle.dk_report.specs.Viewing.{IsTold, IsView, candidates_told, is_told, leader_through, led_through, told_at, told_row, told_rows}
 use Rattle.dk_report.specs.declared.asking.Asking.{Asking}

@@ -2,6 +2,7 @@
 use Rattle.std.specs.Prelude.{◌≡◌, ◌==◌, Bool, true, false, All, List, [], ◌∷◌, filter, if◌then◌else◌, map, nat_le}
 use Rattle.dk_base.specs.declared.kinds.VarId.{VarId}
 use Rattle.dk_filters.specs.Answers.{Answers, Parent}
+use Rattle.dk_filters.specs.Facts.{is_equality}
 use Rattle.dk_filters.specs.Found.{found_of}
 use Rattle.dk_filters.specs.Parents.{IsViewOf, answers_by, parent_shown}
 use Rattle.dk_filters.specs.declared.candidate.Candidate.{Candidate}
@@ -10,7 +11,7 @@ use Rattle.dk_fits.specs.Instances.{all_vars}
 use Rattle.dk_hierarchy.specs.Merging.{Joint, merged_agree, merged_count, merged_state}
 use Rattle.dk_template.specs.Templates.{arity_of, template_of}
 use Rattle.dk_template.specs.declared.grammar.RowId.{RowId}
-use Rattle.dk_report.specs.Listing.{is_equality, listed_candidates, may_equal, may_lead, may_stand}
+use Rattle.dk_report.specs.Listing.{listed_candidates, may_equal, may_lead, may_stand}
 use Rattle.dk_report.specs.Sweeps.{equal_takes, over_takes}
 use Rattle.dk_report.specs.declared.asking.Asking.{Asking}
 use Rattle.dk_report.specs.declared.sweeping.Standing.{Standing}

@@ -3,7 +3,6 @@ use Rattle.std.specs.Prelude.{◌&&◌, ◌||◌, ◌==◌, Bool, not, List, [],
 use Rattle.dk_base.specs.declared.kinds.VarId.{VarId}
 use Rattle.dk_filters.specs.Answers.{Answers, Parent}
 use Rattle.dk_filters.specs.Candidates.{candidate_of, it_holds}
-use Rattle.dk_filters.specs.Facts.{equalities, is_one_of}
 use Rattle.dk_filters.specs.Found.{first_in, one_value_in}
 use Rattle.dk_filters.specs.declared.candidate.Candidate.{Candidate}
 use Rattle.dk_filters.specs.declared.found.PointFacts.{PointFacts}
@@ -31,10 +30,6 @@ listed_candidates_of_row options here parents row =
     flat_map (listed_candidates options here parents row) (tuples_over (arity_of row) (all_vars here.infos))
 
 -- ---- variables that are passed over
--- the row says that two variables are the same
-abbrev pub is_equality : RowId → Bool
-is_equality row = is_one_of equalities row
-
 -- An instance over the variable may be kept: it is the first of those like it, or members are kept; and where there are several variables
 -- it isn't one of one value, or such are kept.
 abbrev pub may_stand : Options → PointFacts → Bool → VarId → Bool

@@ -10,6 +10,7 @@ use Rattle.dk_constants.specs.Known.{Entries, known_at}
 use Rattle.dk_engine.specs.Levels.{Whole}
 use Rattle.dk_engine.specs.declared.kept.Kept.{Kept}
 use Rattle.dk_engine.specs.declared.slot.Slot.{Slot}
+use Rattle.dk_filters.specs.Facts.{is_equality}
 use Rattle.dk_filters.specs.declared.candidate.Candidate.{Candidate}
 use Rattle.dk_fits.specs.Instances.{are_distinct}
 use Rattle.dk_hierarchy.specs.Merging.{AreWays, Joint}
@@ -22,7 +23,6 @@ use Rattle.dk_template.specs.Templates.{arity_of, roles_of, template_of}
 use Rattle.dk_template.specs.declared.grammar.RowId.{RowId}
 use Rattle.dk_template.specs.declared.templates.Role.{Role}
 use Rattle.dk_report.specs.Asked.{candidates_over, candidates_standing, listed_candidates_by}
-use Rattle.dk_report.specs.Listing.{is_equality}
 use Rattle.dk_report.specs.declared.asking.Asking.{Asking}
 use Rattle.dk_report.specs.declared.options.Options.{Options}
 use Rattle.dk_report.specs.declared.sweeping.Standing.{Standing}

@@ -1,16 +1,12 @@
 -- The candidates of tuples of variables, one of a list at each role.
-use Rattle.std.specs.Prelude.{Bool, List, [], ◌∷◌, filter, flat_map, if◌then◌else◌, slice_get}
+use Rattle.std.specs.Prelude.{Bool, List, [], ◌∷◌, flat_map, if◌then◌else◌}
 use Rattle.dk_base.specs.declared.kinds.VarId.{VarId}
 use Rattle.dk_base.specs.declared.kinds.VarInfo.{VarInfo}
+use Rattle.dk_engine.specs.Suited.{suited_vars}
 use Rattle.dk_filters.specs.declared.candidate.Candidate.{Candidate}
-use Rattle.dk_template.specs.Admitted.{suits}
 use Rattle.dk_template.specs.declared.templates.Role.{Role}
 use Rattle.dk_template.specs.declared.templates.Takes.{Takes}
 use Rattle.dk_template.specs.declared.templates.Takes.TheVariants.{One, Two, Three}
-
--- those of the variables that suit a role
-abbrev pub suited_vars : Role → List VarInfo → List VarId → List VarId
-suited_vars role infos of = filter (λ v. suits role (slice_get infos v.0)) of
 
 module _ (listed : List VarId → List Candidate) where
   -- of one variable of the list; of a variable and one of the list; of two and one of the list

@@ -1,7 +1,5 @@
 // What is asked about an instance.
-ghost use Rattle.std.specs.Prelude.{◌≡◌, ◌≤◌, ◌==◌, ◌++◌, IfOk, length, not};
-ghost use Rattle.std.specs.List.{list_all};
-ghost use Rattle.dk_fits.specs.Instances.{are_distinct, is_asked};
+ghost use Rattle.std.specs.Prelude.{◌≡◌, ◌≤◌, ◌++◌, IfOk, length};
 ghost use Rattle.dk_report.specs.Asked.{CanBeAsked, listed_candidates_by};
 ghost use Rattle.dk_template.specs.Templates.{IsRow, IsRowOf};
 
@@ -9,35 +7,10 @@ use crate::Options;
 use crate::counting::Counted;
 use crate::keeping::keeps;
 use dk_base::{List, NoMemory, VarId, VarInfo};
-use dk_filters::{Candidate, ParentView, PointFacts, judge_with};
+use dk_filters::{Candidate, ParentView, PointFacts, is_asked, judge_with};
 use dk_hierarchy::Merged;
-use dk_template::{Answers, Grammar, RowId, Tuple, admits, fits, is_written};
+use dk_template::{Answers, Grammar, RowId, Tuple, fits};
 use std::alloc::Global;
-
-// Whether the variable is none of the others.
-fn is_none_of(v: VarId, others: &[VarId]) -> bool
-    ensures { result ≡ list_all (λ w. not (v.0 == w.0)) others.now }
-{
-    others.iter().all(|w| v.0 != w.0)
-}
-
-/// Whether no variable comes twice.
-pub(crate) fn are_distinct(vars: &[VarId]) -> bool
-    ensures { result ≡ are_distinct vars.now }
-{
-    match vars {
-        [] => true,
-        [v, others @ ..] => is_none_of(*v, others) && are_distinct(others),
-    }
-}
-
-// Whether the variables are an instance's.
-fn is_asked(row: RowId, infos: &[VarInfo], vars: &[VarId]) -> bool
-    requires { IsRow row }
-    ensures { result ≡ is_asked infos.now row vars.now }
-{
-    admits(row, infos, vars) && is_written(row, vars) && are_distinct(vars)
-}
 
 /// A point whose instances are asked about: what answers for it and for its parents, what is found of it once, and what the options
 /// let through.

@@ -33,7 +33,7 @@ fn add_count(counts: &mut Vec<u64>, vars: &[VarId], more: u64)
     }
 }
 
-// So many zeros.
+// A list of so many zeros.
 fn zeros(alloc: Global, count: usize) -> Result<Vec<u64>, NoMemory>
     ensures { IfOk result (λ zeros. zeros.items ≡ replicate count 0) }
 {

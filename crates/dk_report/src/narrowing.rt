@@ -16,15 +16,15 @@ ghost use Rattle.dk_report.specs.Narrowing.{CanNarrow, IsSole, all_lead, brings_
 ghost use Rattle.dk_template.specs.Admitted.{suits};
 ghost use Rattle.dk_template.specs.Templates.{IsRow, IsRowOf};
 
-use crate::asking::{Asking, are_distinct};
-use crate::sweeping::{Standing, is_equality, suits};
+use crate::asking::Asking;
+use crate::sweeping::Standing;
 use dk_base::{List, NoMemory, Value, VarId, VarInfo};
 use dk_classes::Classes;
 use dk_constants::Constants;
 use dk_engine::{Engine, Slot};
-use dk_filters::Candidate;
+use dk_filters::{Candidate, are_distinct, is_equality};
 use dk_hierarchy::Way;
-use dk_template::{Role, RowId, Takes, fits, info, template_at};
+use dk_template::{Role, RowId, Takes, fits, info, suits, template_at};
 use std::alloc::Global;
 
 // Whether the variable is constant, and there.
@@ -44,7 +44,7 @@ fn is_of_row(row: RowId, slot: &Slot) -> bool
     slot.row.0 == row.0 && fits(&slot.state) && are_distinct(slot.leaders.as_slice())
 }
 
-// Such slots.
+// The slots of one row, in order.
 fn slots_of_row<'s>(alloc: Global, slots: &'s [Slot], row: RowId) -> Result<Vec<&'s Slot>, NoMemory>
     ensures { IfOk result (λ list. map (λ slot. slot.now) list.items ≡ filter (is_of_row row) slots.now) }
 {

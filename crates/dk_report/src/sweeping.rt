@@ -1,79 +1,20 @@
 // The candidates of a point, row by row over all tuples of variables that may stand in what is kept.
-ghost use Rattle.std.specs.Prelude.{◌≡◌, ◌≤◌, ◌^◌, ◌<◌, ◌++◌, IfOk, filter, length, slice_get};
+ghost use Rattle.std.specs.Prelude.{◌≡◌, ◌≤◌, ◌^◌, ◌<◌, ◌++◌, IfOk, length};
 ghost use Rattle.dk_filters.specs.Candidates.{candidates_kept, candidates_of};
-ghost use Rattle.dk_filters.specs.Found.{first_in, one_value_in};
 ghost use Rattle.dk_report.specs.Keeping.{keeps};
 ghost use Rattle.dk_report.specs.Asked.{AreStanding, CanBeAsked, candidates_equal, candidates_over, candidates_standing, has_enough, here_of, listed_candidates_by, vars_for_row, vars_with_enough, views_of};
-ghost use Rattle.dk_report.specs.Listing.{is_equality, may_equal, may_lead, may_stand};
-ghost use Rattle.dk_report.specs.Sweeps.{behind, equal_pairs, equals, firsts, over_takes, pairs, seconds, suited_vars, thirds, triples};
-ghost use Rattle.dk_template.specs.Admitted.{suits};
+ghost use Rattle.dk_report.specs.Listing.{may_equal, may_lead, may_stand};
+ghost use Rattle.dk_report.specs.Sweeps.{behind, equal_pairs, equals, firsts, over_takes, pairs, seconds, thirds, triples};
 ghost use Rattle.dk_template.specs.Templates.{IsRow, IsRowOf};
 
 use crate::Options;
 use crate::asking::Asking;
 use crate::narrowing::has;
-use dk_base::{Form, List, NoMemory, VarId, VarInfo};
-use dk_filters::{Candidate, PointFacts};
+use dk_base::{List, NoMemory, VarId};
+use dk_engine::suited_vars;
+use dk_filters::{Candidate, PointFacts, first_of, has_one_value, is_equality};
 use dk_template::{Answers, Role, RowId, Takes, info, template_at};
 use std::alloc::Global;
-
-/// Whether the variable is there, is of the role's kind, and is a base one where the role takes base ones alone.
-pub(crate) fn suits(role: Role, infos: &[VarInfo], v: VarId) -> bool
-    ensures { result ≡ suits role (slice_get infos.now v.0) }
-{
-    match infos.get(v.0 as usize) {
-        Some(info) => {
-            info.kind == role.kind()
-                && (!role.is_base() || matches!(info.form, Form::Declared | Form::Orig))
-        }
-        None => false,
-    }
-}
-
-// Those of the variables that suit a role.
-fn suited_vars(
-    alloc: Global,
-    role: Role,
-    infos: &[VarInfo],
-    of: &[VarId],
-) -> Result<List<VarId>, NoMemory>
-    ensures { IfOk result (λ list. list ≡ suited_vars role infos.now of.now) }
-{
-    let mut list = List::new(alloc);
-    for v in of {
-        if suits(role, infos, *v) {
-            list.push(*v)?;
-        }
-    }
-    Ok(list)
-}
-
-/// Whether the row says that two variables are the same.
-pub(crate) fn is_equality(row: RowId) -> bool
-    ensures { result ≡ is_equality row }
-{
-    [11, 18, 20, 22, 57, 58, 59, 60].iter().any(|n| row.0 == *n)
-}
-
-// The first variable that is like it.
-fn first_of(firsts: &[VarId], v: VarId) -> VarId
-    ensures { result ≡ first_in firsts.now v }
-{
-    match firsts.get(v.0 as usize) {
-        Some(first) => *first,
-        None => v,
-    }
-}
-
-// Whether the variable is a scalar with one value.
-fn has_one_value(one_values: &[bool], v: VarId) -> bool
-    ensures { result ≡ one_value_in one_values.now v }
-{
-    match one_values.get(v.0 as usize) {
-        Some(one) => *one,
-        None => false,
-    }
-}
 
 // Whether an instance over the variable may be kept.
 fn may_stand(options: &Options, found: &PointFacts, several: bool, v: VarId) -> bool

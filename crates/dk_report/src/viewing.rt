@@ -16,13 +16,13 @@ ghost use Rattle.dk_report.specs.Viewing.{IsTold, IsView, all_may_fit, are_mappe
 ghost use Rattle.dk_template.specs.Premises.{row_of};
 ghost use Rattle.dk_template.specs.Templates.{IsRow, IsRowOf, arity_of};
 
-use crate::asking::{Asking, are_distinct};
+use crate::asking::Asking;
 use crate::narrowing::{has, is_narrow, stands_in};
 use crate::sweeping::Standing;
 use dk_base::{List, NoMemory, VarId};
 use dk_constants::Constants;
 use dk_engine::{Engine, Slot};
-use dk_filters::Candidate;
+use dk_filters::{Candidate, are_distinct};
 use dk_hierarchy::Way;
 use dk_suppress::{Rule, table};
 use dk_template::{Answers, Grammar, Premise, RowId, asked_row, info};
@@ -109,7 +109,7 @@ fn is_met(led: &[(VarId, VarId)], row: RowId, slot: &Slot) -> bool
     slot.row.0 == row.0 && (are_distinct(leaders) || some_leads_several(led, leaders))
 }
 
-// Such slots.
+// The slots whose leaders lead variables that are shown.
 fn slots_met<'s>(
     alloc: Global,
     led: &[(VarId, VarId)],
@@ -289,7 +289,7 @@ fn is_told(shown: bool, below: &[List<VarId>], row: RowId, v: VarId) -> bool
     shown || may_follow(below, row, v)
 }
 
-// Such variables.
+// The variables that are shown and of which the row may say something.
 fn told_row(
     alloc: Global,
     shown: &[(VarId, bool)],

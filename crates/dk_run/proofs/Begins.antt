@@ -17,7 +17,7 @@ use Rattle.dk_run.specs.WholeFile.{GoesOnFrom}
 use Rattle.dk_run.specs.declared.starting.Beginning.{Beginning}
 use Rattle.dk_driver.specs.declared.fault.FileFault.{FileFault}
 use Rattle.dk_driver.specs.declared.fault.FileFault.TheVariants as b
-use Rattle.dk_run.proofs.Placing.{rose_since}
+use Rattle.dk_driver.proofs.Running.{rose_since}
 
 -- ---- reading the state file
 pub there_started : (held : HeldFile) (rest : Option (List ℕ)) → Starts held rest → held ≢ Absent

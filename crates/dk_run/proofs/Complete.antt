@@ -1,12 +1,11 @@
 -- A run over files that are held comes to its end.
-use Rattle.std.proofs.Common.{◌≡◌, ◌≤◌, ◌<◌, ◌+◌, ◌++◌, ◌-◌, inl, inr, Bool, ℕ, zero, suc, List, [], ◌∷◌, map, take, length, Option, Some, None, Result, Ok, Err, refl, sym, ◌∙◌, ap, subst, arith}
+use Rattle.std.proofs.Common.{◌≡◌, ◌≤◌, ◌<◌, ◌+◌, ◌++◌, ◌-◌, inl, inr, Bool, ℕ, List, map, take, length, Option, Some, None, Result, Ok, Err, refl, sym, ◌∙◌, ap, subst, arith}
 use Rattle.std.proofs.lemmas.Bool.{cases_lt}
 use Rattle.std.proofs.lemmas.List.{length-take, take-map, take-take, take_all}
-use Rattle.dk_base.specs.Reading.{LineFault}
 use Rattle.dk_base.specs.declared.why.Why.{Why}
 use Rattle.dk_io.specs.Outside.{HeldFile, Holds, Rose}
 use Rattle.dk_io.specs.declared.outside.Stream.TheVariants.{Messages}
-use Rattle.dk_blocks.specs.History.{History, file_ended}
+use Rattle.dk_blocks.specs.History.{History}
 use Rattle.dk_core.proofs.Resuming.{table_spelled}
 use Rattle.dk_words.specs.declared.command.Command.{Command}
 use Rattle.dk_arguments.specs.declared.request.Request.{Request}
@@ -17,29 +16,18 @@ use Rattle.dk_program.specs.Messages.{fault_line}
 use Rattle.dk_program.specs.Moments.{IsCalm, Outside}
 use Rattle.dk_program.specs.Outputs.{Output, only_on, texts_followed_by}
 use Rattle.dk_run.specs.Commands.{file_names, helds_of}
-use Rattle.dk_run.specs.Courses.{Course, Outset, behind_histories, course_of, course_of_file, course_of_files, fault_in, first_fault, then_files}
+use Rattle.dk_driver.specs.Trails.{Outset, fault_in, trail_of_files}
+use Rattle.dk_run.specs.Courses.{Course, course_along, course_of, first_fault}
 use Rattle.dk_run.specs.Starts.{Begins, BeginsLike, HasBegun, IsRefusedAs, IsState}
 use Rattle.dk_run.specs.Outputs.{first_line, output_along, output_at, output_of}
 use Rattle.dk_run.specs.Statuses.{AreCleanBehind, CompletesCalmly, IsComplete, IsDone, IsRefused, IsStateRefused, IsStateUnread, IsUnread, OutputIsWritten, Says}
 use Rattle.dk_events.specs.declared.ended.Ended.{Ended}
 use Rattle.dk_events.specs.declared.ended.Ended.TheVariants.{Done, Refused, Usage, Read, Write, NoMemory}
-use Rattle.dk_run.proofs.Saying.{held-take, same_length}
+use Rattle.dk_driver.proofs.Complete.{front_held, held_take, held_there, held_whole as held_front}
+use Rattle.dk_driver.proofs.Trails.{trail_front}
+use Rattle.dk_run.proofs.Saying.{same_length}
 
 -- ---- later files don't change a course that has ended with a fault
-then_same : (place : ℕ) (r : Result History LineFault) (more other : History → Course FaultAt) (f : FaultAt)
-    → ((h : History) → (more h).end ≡ Err f → more h ≡ other h) → (then_files place r more).end ≡ Err f → then_files place r more ≡ then_files place r other
-then_same place (Ok h) more other f same e = same h e
-then_same place (Err l) more other f same e = refl
-
-course_front : (ignores : Bool) (room : ℕ) (h : History) (place : ℕ) (k : ℕ) (fs : List File) (f : FaultAt) → (course_of_files ignores room h place (take k fs)).end ≡ Err f
-    → course_of_files ignores room h place (take k fs) ≡ course_of_files ignores room h place fs
-course_front ignores room h place zero fs f e = absurd (cc (e))
-course_front ignores room h place (suc k) [] f e = refl
-course_front ignores room h place (suc k) (x ∷ xs) f e =
-    ap (behind_histories (course_of_file ignores room h x).after) (then_same place (course_of_file ignores room h x).end
-    (λ next. course_of_files ignores (room - length x.bytes) (file_ended next) (place + 1) (take k xs)) (λ next. course_of_files ignores (room - length x.bytes) (file_ended next) (place + 1) xs) f
-    (λ next. course_front ignores (room - length x.bytes) (file_ended next) (place + 1) k xs f) e)
-
 fault_is : (r : Result History FaultAt) (f : FaultAt) → fault_in r ≡ Some f → r ≡ Err f
 fault_is (Ok h) f e = absurd (cc (e))
 fault_is (Err g) f e = cc (e)
@@ -47,20 +35,11 @@ fault_is (Err g) f e = cc (e)
 -- the course over a front of the files that ends with a fault is that over all of them
 first_front : (start : Outset) (ignores : Bool) (k : ℕ) (fs : List File) (f : FaultAt) → first_fault start ignores (take k fs) ≡ Some f → course_of start ignores (take k fs) ≡ course_of start ignores fs
 unfolding course_of
-first_front start ignores k fs f e = course_front ignores start.room start.history 0 k fs f (fault_is (course_of_files ignores start.room start.history 0 (take k fs)).end f e)
+first_front start ignores k fs f e = ap course_along (trail_front ignores start.room start.history 0 k fs f (fault_is (trail_of_files ignores start.room start.history 0 (take k fs)).end f e))
 
 -- ---- files that are held
-held_take : (k : ℕ) (helds : List HeldFile) (contents : List (List ℕ)) → AreHeldFiles helds contents → AreHeldFiles (take k helds) (take k contents)
-held_take k helds contents held = ap (λ (l : List HeldFile). take k l) held ∙ take-map Holds k contents
-
 held_whole : (helds : List HeldFile) (contents : List (List ℕ)) → AreHeldFiles helds contents → AreHeldFiles (take (length helds) helds) contents
-held_whole helds contents held = subst (λ (l : List HeldFile). AreHeldFiles l contents) (sym (take_all (length helds) helds (omega arith))) held
-
-held_there : (helds : List HeldFile) (contents : List (List ℕ)) (k : ℕ) → AreHeldFiles helds contents → k < length helds → (xs : List ℕ) × (held_file_at helds k ≡ Holds xs)
-held_there [] contents k held h = absurd (omega arith)
-held_there (n ∷ ns) [] k held h = absurd (cc (held))
-held_there (n ∷ ns) (c ∷ cs) zero held h = (c, cc (held))
-held_there (n ∷ ns) (c ∷ cs) (suc k) held h = held_there ns cs k (cc (held)) (omega arith)
+held_whole helds contents held = held_front helds contents (length helds) (omega arith) held
 
 -- no file that is held was left unread
 not_unread : (command : Command) (before after : Outside) (by : Break) (place n : ℕ) (contents : List (List ℕ)) → IsCalm before after → AreHeldFiles (take n (helds_of command before.file)) contents → place < n → place < length (file_names command)
@@ -69,7 +48,7 @@ not_unread command before after Within place n contents calm held below named ca
 not_unread command before after AtStart place n contents calm held below named (inr rose) = calm.read rose
 not_unread command before after AtStart place n contents calm held below named (inl absent) =
     let there = held_there (take n (helds_of command before.file)) contents place held (omega (arith, named, same_length command before.file, length-take n (helds_of command before.file))) in
-    let same = held-take (helds_of command before.file) n place below in
+    let same = front_held (helds_of command before.file) n place below in
     cc (absent, same, there.1)
 
 -- of the first n files the contents are held, and they have a first fault: so the faulty one stands behind the clean ones

@@ -1,5 +1,5 @@
--- The places of named files, behind the generated one.
-use Rattle.std.proofs.Common.{◌≡◌, ◌≢◌, ◌≤◌, ◌<◌, ◌⊎◌, ◌+◌, ◌-◌, ◌^◌, min, ℕ, zero, suc, List, [], ◌∷◌, ◌++◌, map, length, inl, inr, Bool, if◌then◌else◌, Option, Some, None, Result, Ok, Err, refl, sym, ◌∙◌, ap, subst, arith}
+-- The files of a run, one after another: the named ones stand behind the generated one.
+use Rattle.std.proofs.Common.{◌≡◌, ◌≢◌, ◌≤◌, ◌<◌, ◌⊎◌, ◌+◌, ◌-◌, ℕ, suc, List, [], ◌∷◌, ◌++◌, map, length, inl, inr, Bool, if◌then◌else◌, Option, Some, None, Result, Ok, Err, refl, sym, ◌∙◌, ap, subst, arith}
 use Rattle.std.proofs.lemmas.List.{append-nil, length-map}
 use Rattle.std.specs.Option.{option_map_or}
 use Rattle.dk_generate.specs.Generated.{generated_text}
@@ -9,28 +9,25 @@ use Rattle.dk_io.specs.NamedFiles.{bytes_of, held_or_empty}
 use Rattle.dk_io.specs.Outside.{HeldFile, Absent, Holds, Rose}
 use Rattle.dk_lines.specs.Reading.{Reading, room_of}
 use Rattle.dk_blocks.specs.History.{History}
-use Rattle.dk_core.specs.Standing.{SessionReadsFor, SessionStandsFor, blocks_of}
+use Rattle.dk_core.specs.Standing.{blocks_of}
 use Rattle.dk_core.specs.declared.session.Session.{Session}
 use Rattle.dk_words.specs.declared.command.Command.{Command}
+use Rattle.dk_driver.proofs.Running.{held_map, read_none, read_on, refused_on, rest_next, rose_since, short_on, unread_on, unstarted_on}
 use Rattle.dk_driver.specs.Files.{file_name_at}
 use Rattle.dk_driver.specs.Reads.{held_file_at, rest_behind}
+use Rattle.dk_driver.specs.Trails.{Outset, Step}
+use Rattle.dk_driver.specs.WholeFile.{ComesToEnd, HasFault, IsShort}
 use Rattle.dk_run.specs.AllFiles.{AreReadTo, FilesTroubleGives, HasBrokenAt, files_trouble}
 use Rattle.dk_run.specs.Commands.{file_names, generated_count, helds_of}
-use Rattle.dk_run.specs.Courses.{Outset, line_limit}
+use Rattle.dk_run.specs.Courses.{line_limit}
 use Rattle.dk_run.specs.Beginning.{BeginsFrom}
-use Rattle.dk_run.specs.Starts.{BeginsLike}
-use Rattle.dk_presence.specs.Patterns.{capped}
-use Rattle.dk_run.specs.WholeFile.{ComesToEnd, FileGives, FileTroubleGives, HasFault, IsNoBreak, IsShort, TextGives, fresh_reading}
+use Rattle.dk_run.specs.Starts.{Begins, BeginsLike}
+use Rattle.dk_run.specs.WholeFile.{FileGives, FileTroubleGives, IsBehind, IsNoBreak, IsWritten, IsWrittenInPart, TextGives, fresh_reading}
 use Rattle.dk_run.specs.declared.reading.Trouble.{Trouble}
 use Rattle.dk_run.specs.declared.reading.Trouble.TheVariants as t
-use Rattle.dk_run.proofs.Running.{read_none, read_on, refused_on, short_on, unread_on, unstarted_on}
+use Rattle.dk_run.proofs.Filing.{due_none}
 
 -- ---- places
-held_map : (file : List ℕ → HeldFile) (files : List (List ℕ)) (index : ℕ) → index < length files → held_file_at (map file files) index ≡ file (file_name_at files index)
-held_map file [] index h = absurd (omega arith)
-held_map file (f ∷ fs) zero h = refl
-held_map file (f ∷ fs) (suc index) h = held_map file fs index (omega arith)
-
 held_behind : (g : Option ℕ) (file : List ℕ → HeldFile) (files : List (List ℕ)) (index : ℕ) → index < length files
     → held_file_at (option_map_or (λ n. Holds (generated_text n) ∷ map file files) g (map file files)) (option_map_or (λ n. 1) g 0 + index) ≡ file (file_name_at files index)
 held_behind None file files index h = let same : 0 + index ≡ index = omega arith in ap (held_file_at (map file files)) same ∙ held_map file files index h
@@ -61,55 +58,61 @@ pub names_length : (command : Command) → length (file_names command) ≡ gener
 names_length command = names_length_of command.generate command.files
 
 -- ---- named files
-rest_next : (count index : ℕ) (before after : Option (List ℕ)) → after ≡ Some [] → after ≡ rest_behind (count + index + 1 - count) before
-rest_next count index before after e = let next : suc index ≡ count + index + 1 - count = omega arith in subst (λ (n : ℕ). after ≡ rest_behind n before) next e
+-- the trail behind a start goes on with this of a run
+abbrev BehindStart : {F : Type 0} → Command → (List ℕ → HeldFile) → Session F → List ℕ → Outset → History → List Step → Type 0
+BehindStart command file s text start = IsBehind command (Begins command.resume file start) s text
 
-pub named_on : {F : Type 0} (command : Command) (file : List ℕ → HeldFile) (before mid after : Option (List ℕ)) (s next : Session F) (index : ℕ) (r last : Reading) (told text name : List ℕ)
-    → name ≡ file_name_at command.files index → index < length command.files → r.limits.line ≡ line_limit → file name ≢ Absent
-    → AreReadTo command file before mid s (room_of r) (generated_count command + index) told
-    → ((h : History) (n : ℕ) → SessionReadsFor s h → blocks_of s ≡ capped n → (xs : List ℕ) → file name ≡ Holds xs → FileGives command n h (SessionStandsFor s h) r xs text (Ok next) last after)
-    → AreReadTo command file before after next (room_of last) (generated_count command + (index + 1)) (told ++ text)
-named_on command file before mid after s next index r last told text name is within limits there read gives =
-    let here : held_file_at (helds_of command file) (generated_count command + index) ≡ file name = held_named command file index within ∙ ap file (sym is) in
-    let place : generated_count command + index + 1 ≡ generated_count command + (index + 1) = omega arith in
-    subst (λ (n : ℕ). AreReadTo command file before after next (room_of last) n (told ++ text)) place
-    (read_on command file before mid after after s next (generated_count command + index) r last told text limits
-    (omega (arith, helds_length command file)) (λ absent. there (sym here ∙ absent)) (λ first e. rest_next (generated_count command) index before after e) read
-    (λ h n stands counts xs holds. gives h n stands counts xs (sym here ∙ holds)))
+module _ {F : Type 0} (command : Command) (file : List ℕ → HeldFile) (before mid : Option (List ℕ)) (s : Session F) (index : ℕ) (r : Reading) (told text name : List ℕ)
+    (is : name ≡ file_name_at command.files index) (within : index < length command.files) (limits : r.limits.line ≡ line_limit)
+    (read : AreReadTo command file before mid s (room_of r) (generated_count command + index) told) where
+  here : held_file_at (helds_of command file) (generated_count command + index) ≡ file name
+  here = held_named command file index within ∙ ap file (sym is)
 
-pub named_trouble : {F : Type 0} (command : Command) (file : List ℕ → HeldFile) (before mid rest : Option (List ℕ)) (s : Session F) (index : ℕ) (r : Reading) (told text name : List ℕ) (trouble : Trouble)
-    → name ≡ file_name_at command.files index → index < length command.files → r.limits.line ≡ line_limit → ((trouble ≡ t.Start → ⊥) → file name ≢ Absent)
-    → (trouble ≡ t.Start → (text ≡ []) × (rest ≡ mid))
-    → AreReadTo command file before mid s (room_of r) (generated_count command + index) told
-    → ((h : History) (n : ℕ) → SessionReadsFor s h → blocks_of s ≡ capped n → (xs : List ℕ) → file name ≡ Holds xs → FileTroubleGives command n h (SessionStandsFor s h) r xs text trouble rest)
-    → FilesTroubleGives command file before (told ++ text) (files_trouble (generated_count command + index) trouble) rest
-named_trouble command file before mid rest s index r told text name trouble is within limits there unstarted read gives =
-    let here : held_file_at (helds_of command file) (generated_count command + index) ≡ file name = held_named command file index within ∙ ap file (sym is) in
-    let below : generated_count command + index < length (helds_of command file) = omega (arith, helds_length command file) in
-    go trouble below here there unstarted gives where
-      go : (trouble : Trouble) → generated_count command + index < length (helds_of command file) → held_file_at (helds_of command file) (generated_count command + index) ≡ file name
-          → ((trouble ≡ t.Start → ⊥) → file name ≢ Absent) → (trouble ≡ t.Start → (text ≡ []) × (rest ≡ mid))
-          → ((h : History) (n : ℕ) → SessionReadsFor s h → blocks_of s ≡ capped n → (xs : List ℕ) → file name ≡ Holds xs → FileTroubleGives command n h (SessionStandsFor s h) r xs text trouble rest)
-          → FilesTroubleGives command file before (told ++ text) (files_trouble (generated_count command + index) trouble) rest
-      go (t.Refused line why) below here there unstarted gives = refused_on command file before mid s (generated_count command + index) line why r told text limits below
-          (λ absent. there (λ e. cc (e)) (sym here ∙ absent)) read (λ h n stands counts xs holds. gives h n stands counts xs (sym here ∙ holds))
-      go t.Start below here there unstarted gives = let e = unstarted refl in
-          unstarted_on command file before mid rest s (generated_count command + index) r told text (omega arith) below read e.0 e.1
-      go t.Read below here there unstarted gives = unread_on command file before mid rest s (generated_count command + index) r told text limits (omega arith) below read
-          (λ h n stands counts xs holds. gives h n stands counts xs (sym here ∙ holds))
-      go t.Write below here there unstarted gives = short_on command file before mid s (generated_count command + index) r told text limits below
-          (λ absent. there (λ e. cc (e)) (sym here ∙ absent)) read
-          (λ h n stands counts xs holds. gives h n stands counts xs (sym here ∙ holds))
-      go t.NoMemory below here there unstarted gives = short_on command file before mid s (generated_count command + index) r told text limits below
-          (λ absent. there (λ e. cc (e)) (sym here ∙ absent)) read
-          (λ h n stands counts xs holds. gives h n stands counts xs (sym here ∙ holds))
+  below : generated_count command + index < length (helds_of command file)
+  below = omega (arith, within, helds_length command file)
 
-rose_within : (a b c limit : ℕ) → a ≤ b → min (b + 1) limit ≤ c → min (a + 1) limit ≤ c
-rose_within a b c limit h r = omega arith
+  pub named_on : (after : Option (List ℕ)) (next : Session F) (last : Reading) → file name ≢ Absent
+      → ((start : Outset) (h : History) (steps : List Step) → BehindStart command file s told start h steps → (xs : List ℕ) → file name ≡ Holds xs
+      → FileGives command (Begins command.resume file start) (generated_count command + index) h steps r xs (told ++ text) (Ok next) last after)
+      → AreReadTo command file before after next (room_of last) (generated_count command + (index + 1)) (told ++ text)
+  named_on after next last there gives =
+      let place : generated_count command + index + 1 ≡ generated_count command + (index + 1) = omega arith in
+      subst (λ (n : ℕ). AreReadTo command file before after next (room_of last) n (told ++ text)) place
+      (read_on (BeginsLike command.resume file) command.ignore_missing_entry (helds_of command file) before mid (BehindStart command file s told) (generated_count command) (generated_count command + index) r limits below read
+      after after (BehindStart command file next (told ++ text)) last (λ absent. there (sym here ∙ absent)) (λ same e. rest_next (generated_count command) (generated_count command + index) before after (omega arith) e)
+      (λ start h steps behind xs holds. gives start h steps behind xs (sym here ∙ holds)))
 
--- faults that rose in a later call rose in the run
-pub rose_since : (a b c : ℕ) → a ≤ b → Rose b c → Rose a c
-rose_since a b c h r = rose_within a b c (2 ^ 64 - 1) h r
+  pub named_trouble : (rest : Option (List ℕ)) (trouble : Trouble) → ((trouble ≡ t.Start → ⊥) → file name ≢ Absent) → (trouble ≡ t.Start → (text ≡ []) × (rest ≡ mid))
+      → ((start : Outset) (h : History) (steps : List Step) → BehindStart command file s told start h steps → (xs : List ℕ) → file name ≡ Holds xs
+      → FileTroubleGives command (Begins command.resume file start) (generated_count command + index) h steps r xs (told ++ text) trouble rest)
+      → FilesTroubleGives command file before (told ++ text) (files_trouble (generated_count command + index) trouble) rest
+  named_trouble rest (t.Refused line why) there unstarted gives = record {
+    named = below;
+    at = refused_on (BeginsLike command.resume file) command.ignore_missing_entry (helds_of command file) before mid (BehindStart command file s told) (generated_count command) (generated_count command + index) r limits below read
+        (λ start. IsWritten command (Begins command.resume file start) (told ++ text)) line why (λ absent. there (λ e. cc (e)) (sym here ∙ absent))
+        (λ start h steps behind xs holds. gives start h steps behind xs (sym here ∙ holds));
+  }
+  named_trouble rest t.Start there unstarted gives = record {
+    behind = omega arith;
+    named = below;
+    at = unstarted_on (BeginsLike command.resume file) command.ignore_missing_entry (helds_of command file) before mid (BehindStart command file s told) (generated_count command) (generated_count command + index) r limits below read
+        rest (λ start. IsWritten command (Begins command.resume file start) (told ++ text)) (unstarted refl).1
+        (λ start h steps behind begun. ap (λ (l : List ℕ). told ++ l) (unstarted refl).0 ∙ append-nil told ∙ behind.written begun);
+  }
+  named_trouble rest t.Read there unstarted gives = record {
+    behind = omega arith;
+    named = below;
+    at = unread_on (BeginsLike command.resume file) command.ignore_missing_entry (helds_of command file) before mid (BehindStart command file s told) (generated_count command) (generated_count command + index) r limits below read
+        rest (λ start. IsWritten command (Begins command.resume file start) (told ++ text)) (λ start h steps behind xs holds. gives start h steps behind xs (sym here ∙ holds));
+  }
+  named_trouble rest t.Write there unstarted gives =
+      short_on (BeginsLike command.resume file) command.ignore_missing_entry (helds_of command file) before mid (BehindStart command file s told) (generated_count command) (generated_count command + index) r limits below read
+      (λ start. IsWrittenInPart command (Begins command.resume file start) (told ++ text)) (λ absent. there (λ e. cc (e)) (sym here ∙ absent))
+      (λ start h steps behind xs holds. gives start h steps behind xs (sym here ∙ holds))
+  named_trouble rest t.NoMemory there unstarted gives =
+      short_on (BeginsLike command.resume file) command.ignore_missing_entry (helds_of command file) before mid (BehindStart command file s told) (generated_count command) (generated_count command + index) r limits below read
+      (λ start. IsWrittenInPart command (Begins command.resume file start) (told ++ text)) (λ absent. there (λ e. cc (e)) (sym here ∙ absent))
+      (λ start h steps behind xs holds. gives start h steps behind xs (sym here ∙ holds))
 
 pub named_cause : {A : Type 0} (command : Command) (file : List ℕ → HeldFile) (index : ℕ) (name : List ℕ) (r : Result A Trouble) (trouble : Trouble) (a b c : ℕ) → r ≡ Err trouble
     → name ≡ file_name_at command.files index → index < length command.files → a ≤ b
@@ -131,15 +134,14 @@ own_held files name text other e same =
     ap (λ (l : List (List ℕ × List ℕ)). held_or_empty l other) e ∙ ap (λ (n : List ℕ). held_or_empty ((name, text) ∷ []) n) same
     ∙ ap (λ (b : Bool). Holds (bytes_of (if b then Holds text else Absent))) (bytes_eq-same name)
 
-pub text_gives : {F : Type 0} (command : Command) (n : ℕ) (h : History) (Stood : Type 0) (r last : Reading) (xs text : List ℕ) (rest : Option (List ℕ)) (result : Result (Session F) Trouble)
-    → FileGives command n h Stood r xs text result last rest → TextGives command n h Stood r xs text result last
-text_gives command n h Stood r last xs text rest (Ok session) e =
-    record { after = e.after; next = e.next; goes = e.goes; counts = e.counts; told = e.told; nothing_left = refl; room = e.room; all = e.all }
-text_gives command n h Stood r last xs text rest (Err (t.Refused line why)) e = e
-text_gives command n h Stood r last xs text rest (Err t.Start) e = tt
-text_gives command n h Stood r last xs text rest (Err t.Read) e = tt
-text_gives command n h Stood r last xs text rest (Err t.Write) e = e
-text_gives command n h Stood r last xs text rest (Err t.NoMemory) e = e
+pub text_gives : {F : Type 0} (command : Command) (Begun : Type 0) (h : History) (steps : List Step) (r last : Reading) (xs text : List ℕ) (rest : Option (List ℕ)) (result : Result (Session F) Trouble)
+    → FileGives command Begun 0 h steps r xs text result last rest → TextGives command Begun h steps r xs text result last
+text_gives command Begun h steps r last xs text rest (Ok session) e = record { found = e.found; next = e.next; stands = e.stands; nothing_left = refl; room = e.room; all = e.all }
+text_gives command Begun h steps r last xs text rest (Err (t.Refused line why)) e = e
+text_gives command Begun h steps r last xs text rest (Err t.Start) e = tt
+text_gives command Begun h steps r last xs text rest (Err t.Read) e = tt
+text_gives command Begun h steps r last xs text rest (Err t.Write) e = e
+text_gives command Begun h steps r last xs text rest (Err t.NoMemory) e = e
 
 count_of : (command : Command) (n : ℕ) → command.generate ≡ Some n → generated_count command ≡ 1
 count_of command n e = ap (λ (g : Option ℕ). option_map_or (λ n. 1) g 0) e
@@ -156,43 +158,61 @@ first_there command file n e absent = let holds = first_held command file n e in
 first_text : (command : Command) (file : List ℕ → HeldFile) (n : ℕ) (text xs : List ℕ) → command.generate ≡ Some n → text ≡ generated_text n → held_file_at (helds_of command file) 0 ≡ Holds xs → text ≡ xs
 first_text command file n text xs e is holds = let first = first_held command file n e in cc (first, holds, is)
 
+-- no file was read yet
+begun_behind : {F : Type 0} (command : Command) (file : List ℕ → HeldFile) (s : Session F) (room : ℕ) (start : Outset) → BeginsFrom command file s room start → blocks_of s ≡ 0
+    → BehindStart command file s [] start start.history [] × (room ≡ start.room)
+begun_behind command file s room start is none = (record { fed = record { goes = is.from; counts = none }; written = λ begun. sym (due_none command 1) }, is.room_is)
+
+none_read : {F : Type 0} (command : Command) (file : List ℕ → HeldFile) (before : Option (List ℕ)) (s : Session F) (room : ℕ)
+    → ((start : Outset) → BeginsLike command.resume file start → BeginsFrom command file s room start) → blocks_of s ≡ 0 → AreReadTo command file before before s room 0 []
+none_read command file before s room starts none =
+    read_none (BeginsLike command.resume file) command.ignore_missing_entry (helds_of command file) before (BehindStart command file s []) room (generated_count command)
+    (λ start begins. begun_behind command file s room start (starts start begins) none)
+
 pub none_generated : {F : Type 0} (command : Command) (file : List ℕ → HeldFile) (before : Option (List ℕ)) (s : Session F) (room : ℕ) → command.generate ≡ None
     → ((start : Outset) → BeginsLike command.resume file start → BeginsFrom command file s room start) → blocks_of s ≡ 0
     → AreReadTo command file before before s room (generated_count command) []
 none_generated command file before s room e starts none =
     let count : 0 ≡ generated_count command = sym (ap (λ (g : Option ℕ). option_map_or (λ n. 1) g 0) e) in
-    subst (λ (n : ℕ). AreReadTo command file before before s room n []) count (read_none command file before s room starts none)
+    subst (λ (n : ℕ). AreReadTo command file before before s room n []) count (none_read command file before s room starts none)
 
-pub generated_on : {F : Type 0} (command : Command) (file : List ℕ → HeldFile) (before : Option (List ℕ)) (s next : Session F) (r last : Reading) (n : ℕ) (bytes text : List ℕ)
-    → command.generate ≡ Some n → bytes ≡ generated_text n → r.limits.line ≡ line_limit
-    → ((start : Outset) → BeginsLike command.resume file start → BeginsFrom command file s (room_of r) start) → blocks_of s ≡ 0
-    → ((h : History) (k : ℕ) → SessionReadsFor s h → blocks_of s ≡ capped k → TextGives command k h (SessionStandsFor s h) r bytes text (Ok next) last)
-    → AreReadTo command file before before next (room_of last) (generated_count command) text
-generated_on command file before s next r last n bytes text e is limits stands none gives =
-    let count : 0 + 1 ≡ generated_count command = omega (arith, count_of command n e) in
-    let rest : 0 + 1 - generated_count command ≡ 0 = omega (arith, count_of command n e) in
-    subst (λ (k : ℕ). AreReadTo command file before before next (room_of last) k text) count
-    (read_on command file before before before (Some []) s next 0 r last [] text limits (first_below command file n e) (first_there command file n e)
-    (λ first end. ap (λ (k : ℕ). rest_behind k before) (sym rest)) (read_none command file before s (room_of r) stands none)
-    (λ h k stands counts xs holds. subst (λ (l : List ℕ). ComesToEnd command k h (SessionStandsFor s h) (fresh_reading r) l text next last (Some [])) (first_text command file n bytes xs e is holds) (gives h k stands counts)))
+module _ {F : Type 0} (command : Command) (file : List ℕ → HeldFile) (before : Option (List ℕ)) (s : Session F) (r last : Reading) (n : ℕ) (bytes text : List ℕ)
+    (e : command.generate ≡ Some n) (is : bytes ≡ generated_text n) (limits : r.limits.line ≡ line_limit)
+    (starts : (start : Outset) → BeginsLike command.resume file start → BeginsFrom command file s (room_of r) start) (none : blocks_of s ≡ 0) where
+  pub generated_on : (next : Session F)
+      → ((start : Outset) (h : History) (steps : List Step) → BehindStart command file s [] start h steps → TextGives command (Begins command.resume file start) h steps r bytes text (Ok next) last)
+      → AreReadTo command file before before next (room_of last) (generated_count command) text
+  generated_on next gives =
+      let count : 0 + 1 ≡ generated_count command = omega (arith, count_of command n e) in
+      let rest : 0 + 1 - generated_count command ≡ 0 = omega (arith, count_of command n e) in
+      subst (λ (k : ℕ). AreReadTo command file before before next (room_of last) k text) count
+      (read_on (BeginsLike command.resume file) command.ignore_missing_entry (helds_of command file) before before (BehindStart command file s []) (generated_count command) 0 r limits (first_below command file n e)
+      (none_read command file before s (room_of r) starts none) before (Some []) (BehindStart command file next text) last (first_there command file n e) (λ first end. ap (λ (k : ℕ). rest_behind k before) (sym rest))
+      (λ start h steps behind xs holds. subst (λ (l : List ℕ). ComesToEnd command.ignore_missing_entry 0 h steps (fresh_reading r) l (BehindStart command file next text start) last (Some []))
+      (first_text command file n bytes xs e is holds) (gives start h steps behind)))
 
-pub generated_trouble : {F : Type 0} (command : Command) (file : List ℕ → HeldFile) (before : Option (List ℕ)) (s : Session F) (r last : Reading) (n : ℕ) (bytes text : List ℕ) (trouble : Trouble)
-    → command.generate ≡ Some n → bytes ≡ generated_text n → r.limits.line ≡ line_limit
-    → ((start : Outset) → BeginsLike command.resume file start → BeginsFrom command file s (room_of r) start) → blocks_of s ≡ 0
-    → IsNoBreak {A = Session F} (Err trouble)
-    → ((h : History) (k : ℕ) → SessionReadsFor s h → blocks_of s ≡ capped k → TextGives {F = F} command k h (SessionStandsFor s h) r bytes text (Err trouble) last)
-    → FilesTroubleGives command file before text (files_trouble 0 trouble) before
-generated_trouble command file before s r last n bytes text (t.Refused line why) e is limits stands none steady gives =
-    refused_on command file before before s 0 line why r [] text limits (first_below command file n e) (first_there command file n e) (read_none command file before s (room_of r) stands none)
-    (λ h k stands counts xs holds. subst (λ (l : List ℕ). HasFault command k h (SessionStandsFor s h) (fresh_reading r) l text (record { line = line; why = why })) (first_text command file n bytes xs e is holds) (gives h k stands counts))
-generated_trouble command file before s r last n bytes text t.Start e is limits stands none steady gives = absurd steady
-generated_trouble command file before s r last n bytes text t.Read e is limits stands none steady gives = absurd steady
-generated_trouble command file before s r last n bytes text t.Write e is limits stands none steady gives =
-    short_on command file before before s 0 r [] text limits (first_below command file n e) (first_there command file n e) (read_none command file before s (room_of r) stands none)
-    (λ h k stands counts xs holds. subst (λ (l : List ℕ). IsShort command k h (SessionStandsFor s h) (fresh_reading r) l text) (first_text command file n bytes xs e is holds) (gives h k stands counts))
-generated_trouble command file before s r last n bytes text t.NoMemory e is limits stands none steady gives =
-    short_on command file before before s 0 r [] text limits (first_below command file n e) (first_there command file n e) (read_none command file before s (room_of r) stands none)
-    (λ h k stands counts xs holds. subst (λ (l : List ℕ). IsShort command k h (SessionStandsFor s h) (fresh_reading r) l text) (first_text command file n bytes xs e is holds) (gives h k stands counts))
+  generated_short : ((start : Outset) (h : History) (steps : List Step) → BehindStart command file s [] start h steps
+      → IsShort command.ignore_missing_entry 0 h steps (fresh_reading r) bytes (IsWrittenInPart command (Begins command.resume file start) text)) → FilesTroubleGives command file before text (files_trouble 0 t.Write) before
+  generated_short gives =
+      short_on (BeginsLike command.resume file) command.ignore_missing_entry (helds_of command file) before before (BehindStart command file s []) (generated_count command) 0 r limits (first_below command file n e)
+      (none_read command file before s (room_of r) starts none) (λ start. IsWrittenInPart command (Begins command.resume file start) text) (first_there command file n e)
+      (λ start h steps behind xs holds. subst (λ (l : List ℕ). IsShort command.ignore_missing_entry 0 h steps (fresh_reading r) l (IsWrittenInPart command (Begins command.resume file start) text))
+      (first_text command file n bytes xs e is holds) (gives start h steps behind))
+
+  pub generated_trouble : (trouble : Trouble) → IsNoBreak {A = Session F} (Err trouble)
+      → ((start : Outset) (h : History) (steps : List Step) → BehindStart command file s [] start h steps → TextGives {F = F} command (Begins command.resume file start) h steps r bytes text (Err trouble) last)
+      → FilesTroubleGives command file before text (files_trouble 0 trouble) before
+  generated_trouble (t.Refused line why) steady gives = record {
+    named = first_below command file n e;
+    at = refused_on (BeginsLike command.resume file) command.ignore_missing_entry (helds_of command file) before before (BehindStart command file s []) (generated_count command) 0 r limits (first_below command file n e)
+        (none_read command file before s (room_of r) starts none) (λ start. IsWritten command (Begins command.resume file start) text) line why (first_there command file n e)
+        (λ start h steps behind xs holds. subst (λ (l : List ℕ). HasFault command.ignore_missing_entry 0 h steps (fresh_reading r) l (IsWritten command (Begins command.resume file start) text) (record { line = line; why = why }))
+        (first_text command file n bytes xs e is holds) (gives start h steps behind));
+  }
+  generated_trouble t.Start steady gives = absurd steady
+  generated_trouble t.Read steady gives = absurd steady
+  generated_trouble t.Write steady gives = generated_short gives
+  generated_trouble t.NoMemory steady gives = generated_short gives
 
 pub nothing_told : {F : Type 0} (command : Command) (file : List ℕ → HeldFile) (before rest : Option (List ℕ)) (s : Session F) (room count : ℕ) (told : List ℕ)
     → AreReadTo command file before rest s room count told → AreReadTo command file before rest s room (count + 0) (told ++ [])

@@ -5,8 +5,10 @@ use Rattle.dk_base.specs.declared.why.Why.{Why}
 use Rattle.dk_lines.specs.Left.{End, Over, Broken, LongLine, TooLong, Ends, Left, Next, Piece, is_long, is_over, lined, lined_by, pieces, size_of, without_cr}
 use Rattle.dk_blocks.specs.Blocks.{Group, Groups, Last, groups_of, is_blank_line, onto_group, trimmed_line}
 use Rattle.dk_blocks.specs.History.{History, Taken, effect_of, file_ended}
+use Rattle.dk_driver.proofs.Trails.{trail_ends}
 use Rattle.dk_driver.specs.Files.{File}
-use Rattle.dk_run.specs.Courses.{Course, course_end, course_of, course_of_file, course_of_files, course_of_groups, goes_on, line_limit, then_files}
+use Rattle.dk_driver.specs.Trails.{Trail, goes_on, line_limit, then_files, trail_behind, trail_end, trail_of_file, trail_of_files, trail_of_groups}
+use Rattle.dk_run.specs.Courses.{course_of}
 use Rattle.dk_run.specs.Laws.{ResumedRunsGoOn}
 
 -- ---- lines that end with too many bytes
@@ -68,67 +70,71 @@ groups_over : (left : Left) → AreOver left → GroupsOver (groups_of left)
 groups_over (Ends end) over = over
 groups_over (Next l rest) over = over_if (is_blank_line l) l (groups_of rest) (groups_over rest over)
 
-never : (n : ℕ) (why : Why) (r : Result Taken LineFault) (more : History → Course LineFault) (h : History) → (goes_on (r >>= λ _. Err (record { line = n; why = why })) more).end ≡ Ok h → ⊥
-never n why (Ok t) more h e = cc (e)
-never n why (Err f) more h e = cc (e)
+never : (place n : ℕ) (why : Why) (r : Result Taken LineFault) (more : History → Trail LineFault) (h : History) → (goes_on place (r >>= λ _. Err (record { line = n; why = why })) more).end ≡ Ok h → ⊥
+never place n why (Ok t) more h e = cc (e)
+never place n why (Err f) more h e = cc (e)
 
--- a course over them comes to a fault
-over_fails : (ignores : Bool) (read : Reads Taken) (gs : Groups) (h : History) → GroupsOver gs → (course_of_groups ignores read gs).end ≡ Ok h → ⊥
-over_fails ignores read (Group ls close rest) h over e = go (read ls (Some close)) (λ t. over_fails ignores (effect_of ignores t.history) rest h over) e where
-  go : (r : Result Taken LineFault) → ((t : Taken) → (course_of_groups ignores (effect_of ignores t.history) rest).end ≡ Ok h → ⊥)
-      → (goes_on r (λ n. course_of_groups ignores (effect_of ignores n) rest)).end ≡ Ok h → ⊥
+-- a trail over them comes to a fault
+over_fails : (ignores : Bool) (place : ℕ) (read : Reads Taken) (gs : Groups) (h : History) → GroupsOver gs → (trail_of_groups ignores place read gs).end ≡ Ok h → ⊥
+over_fails ignores place read (Group ls close rest) h over e = go (read ls (Some close)) (λ t. over_fails ignores place (effect_of ignores t.history) rest h over) e where
+  go : (r : Result Taken LineFault) → ((t : Taken) → (trail_behind ignores place t.history rest).end ≡ Ok h → ⊥)
+      → (goes_on place r (λ n. trail_behind ignores place n rest)).end ≡ Ok h → ⊥
   go (Ok t) later e = later t e
   go (Err f) later e = cc (e)
-over_fails ignores read (Last ls (Over n)) h over e = absurd over
-over_fails ignores read (Last ls Broken) h over e = absurd over
-over_fails ignores read (Last ls (LongLine n)) h over e = never n _ (read ls None) (λ n. course_end (Ok n)) h e
-over_fails ignores read (Last ls (TooLong n)) h over e = never n _ (read ls None) (λ n. course_end (Ok n)) h e
+over_fails ignores place read (Last ls (Over n)) h over e = absurd over
+over_fails ignores place read (Last ls Broken) h over e = absurd over
+over_fails ignores place read (Last ls (LongLine n)) h over e = never place n _ (read ls None) (λ n. trail_end (Ok n)) h e
+over_fails ignores place read (Last ls (TooLong n)) h over e = never place n _ (read ls None) (λ n. trail_end (Ok n)) h e
 
 -- ---- files
-near_course : (ignores : Bool) (h a b : History) (left other : Left) → Near left other → (course_of_groups ignores (effect_of ignores h) (groups_of left)).end ≡ Ok a
-    → (course_of_groups ignores (effect_of ignores h) (groups_of other)).end ≡ Ok b → a ≡ b
-near_course ignores h a b left other (inl same) e f =
-    let both = sym e ∙ ap (λ (l : Left). (course_of_groups ignores (effect_of ignores h) (groups_of l)).end) same ∙ f in cc (both)
-near_course ignores h a b left other (inr (inl over)) e f = absurd (over_fails ignores (effect_of ignores h) (groups_of left) a (groups_over left over) e)
-near_course ignores h a b left other (inr (inr over)) e f = absurd (over_fails ignores (effect_of ignores h) (groups_of other) b (groups_over other over) f)
+-- the end doesn't say where its file stands
+ends_alike : (ignores : Bool) (place from : ℕ) (read : Reads Taken) (gs : Groups) → (trail_of_groups ignores place read gs).end ≡ (trail_of_groups ignores from read gs).end
+ends_alike ignores place from read gs = trail_ends ignores place read gs ∙ sym (trail_ends ignores from read gs)
+
+near_trail : (ignores : Bool) (place from : ℕ) (h a b : History) (left other : Left) → Near left other → (trail_behind ignores place h (groups_of left)).end ≡ Ok a
+    → (trail_behind ignores from h (groups_of other)).end ≡ Ok b → a ≡ b
+near_trail ignores place from h a b left other (inl same) e f =
+    let both = sym e ∙ ends_alike ignores place from (effect_of ignores h) (groups_of left) ∙ ap (λ (l : Left). (trail_behind ignores from h (groups_of l)).end) same ∙ f in cc (both)
+near_trail ignores place from h a b left other (inr (inl over)) e f = absurd (over_fails ignores place (effect_of ignores h) (groups_of left) a (groups_over left over) e)
+near_trail ignores place from h a b left other (inr (inr over)) e f = absurd (over_fails ignores from (effect_of ignores h) (groups_of other) b (groups_over other over) f)
 
 -- a file comes to one history, however many bytes may come
-same_file : (ignores : Bool) (room other : ℕ) (h a b : History) (file : File) → (course_of_file ignores room h file).end ≡ Ok a → (course_of_file ignores other h file).end ≡ Ok b → a ≡ b
+same_file : (ignores : Bool) (room other place from : ℕ) (h a b : History) (file : File) → (trail_of_file ignores room h place file).end ≡ Ok a → (trail_of_file ignores other h from file).end ≡ Ok b → a ≡ b
 unfolding lined
-same_file ignores room other h a b file e f =
-    near_course ignores h a b (lined line_limit room 0 file.is_ended file.bytes) (lined line_limit other 0 file.is_ended file.bytes) (near_lines line_limit room other file.is_ended 0 (pieces file.bytes)) e f
+same_file ignores room other place from h a b file e f =
+    near_trail ignores place from h a b (lined line_limit room 0 file.is_ended file.bytes) (lined line_limit other 0 file.is_ended file.bytes) (near_lines line_limit room other file.is_ended 0 (pieces file.bytes)) e f
 
 -- so do files
-same_files : (ignores : Bool) (room other : ℕ) (h a b : History) (place from : ℕ) (files : List File) → (course_of_files ignores room h place files).end ≡ Ok a
-    → (course_of_files ignores other h from files).end ≡ Ok b → a ≡ b
+same_files : (ignores : Bool) (room other : ℕ) (h a b : History) (place from : ℕ) (files : List File) → (trail_of_files ignores room h place files).end ≡ Ok a
+    → (trail_of_files ignores other h from files).end ≡ Ok b → a ≡ b
 same_files ignores room other h a b place from [] e f = let both = sym e ∙ f in cc (both)
 same_files ignores room other h a b place from (x ∷ xs) e f =
-    go (course_of_file ignores room h x).end (course_of_file ignores other h x).end (λ n. same_files ignores (room - length x.bytes) (other - length x.bytes) (file_ended n) a b (place + 1) (from + 1) xs) refl refl e f where
+    go (trail_of_file ignores room h place x).end (trail_of_file ignores other h from x).end (λ n. same_files ignores (room - length x.bytes) (other - length x.bytes) (file_ended n) a b (place + 1) (from + 1) xs) refl refl e f where
       go : (r s : Result History LineFault)
-          → ((n : History) → (course_of_files ignores (room - length x.bytes) (file_ended n) (place + 1) xs).end ≡ Ok a → (course_of_files ignores (other - length x.bytes) (file_ended n) (from + 1) xs).end ≡ Ok b → a ≡ b)
-          → (course_of_file ignores room h x).end ≡ r → (course_of_file ignores other h x).end ≡ s
-          → (then_files place r (λ next. course_of_files ignores (room - length x.bytes) (file_ended next) (place + 1) xs)).end ≡ Ok a
-          → (then_files from s (λ next. course_of_files ignores (other - length x.bytes) (file_ended next) (from + 1) xs)).end ≡ Ok b → a ≡ b
+          → ((n : History) → (trail_of_files ignores (room - length x.bytes) (file_ended n) (place + 1) xs).end ≡ Ok a → (trail_of_files ignores (other - length x.bytes) (file_ended n) (from + 1) xs).end ≡ Ok b → a ≡ b)
+          → (trail_of_file ignores room h place x).end ≡ r → (trail_of_file ignores other h from x).end ≡ s
+          → (then_files place r (λ next. trail_of_files ignores (room - length x.bytes) (file_ended next) (place + 1) xs)).end ≡ Ok a
+          → (then_files from s (λ next. trail_of_files ignores (other - length x.bytes) (file_ended next) (from + 1) xs)).end ≡ Ok b → a ≡ b
       go (Err r) s later is same e f = absurd (cc (e))
       go (Ok n) (Err s) later is same e f = absurd (cc (f))
       go (Ok n) (Ok m) later is same e f =
-          later n e (subst (λ (k : History). (course_of_files ignores (other - length x.bytes) (file_ended k) (from + 1) xs).end ≡ Ok b) (sym (same_file ignores room other h n m x is same)) f)
+          later n e (subst (λ (k : History). (trail_of_files ignores (other - length x.bytes) (file_ended k) (from + 1) xs).end ≡ Ok b) (sym (same_file ignores room other place from h n m x is same)) f)
 
 -- behind the files in front, the others come to what all of them come to
-behind_front : (ignores : Bool) (room : ℕ) (h mid whole : History) (place : ℕ) (front files : List File) → (course_of_files ignores room h place front).end ≡ Ok mid
-    → (course_of_files ignores room h place (front ++ files)).end ≡ Ok whole
-    → (left : ℕ) × (from : ℕ) × ((course_of_files ignores left mid from files).end ≡ Ok whole)
+behind_front : (ignores : Bool) (room : ℕ) (h mid whole : History) (place : ℕ) (front files : List File) → (trail_of_files ignores room h place front).end ≡ Ok mid
+    → (trail_of_files ignores room h place (front ++ files)).end ≡ Ok whole
+    → (left : ℕ) × (from : ℕ) × ((trail_of_files ignores left mid from files).end ≡ Ok whole)
 behind_front ignores room h mid whole place [] files e f =
     let same : h ≡ mid = cc (e) in
-    (room, place, subst (λ (k : History). (course_of_files ignores room k place files).end ≡ Ok whole) same f)
+    (room, place, subst (λ (k : History). (trail_of_files ignores room k place files).end ≡ Ok whole) same f)
 behind_front ignores room h mid whole place (x ∷ xs) files e f =
-    go (course_of_file ignores room h x).end (λ n. behind_front ignores (room - length x.bytes) (file_ended n) mid whole (place + 1) xs files) e f where
+    go (trail_of_file ignores room h place x).end (λ n. behind_front ignores (room - length x.bytes) (file_ended n) mid whole (place + 1) xs files) e f where
       go : (r : Result History LineFault)
-          → ((n : History) → (course_of_files ignores (room - length x.bytes) (file_ended n) (place + 1) xs).end ≡ Ok mid → (course_of_files ignores (room - length x.bytes) (file_ended n) (place + 1) (xs ++ files)).end ≡ Ok whole
-          → (left : ℕ) × (from : ℕ) × ((course_of_files ignores left mid from files).end ≡ Ok whole))
-          → (then_files place r (λ next. course_of_files ignores (room - length x.bytes) (file_ended next) (place + 1) xs)).end ≡ Ok mid
-          → (then_files place r (λ next. course_of_files ignores (room - length x.bytes) (file_ended next) (place + 1) (xs ++ files))).end ≡ Ok whole
-          → (left : ℕ) × (from : ℕ) × ((course_of_files ignores left mid from files).end ≡ Ok whole)
+          → ((n : History) → (trail_of_files ignores (room - length x.bytes) (file_ended n) (place + 1) xs).end ≡ Ok mid → (trail_of_files ignores (room - length x.bytes) (file_ended n) (place + 1) (xs ++ files)).end ≡ Ok whole
+          → (left : ℕ) × (from : ℕ) × ((trail_of_files ignores left mid from files).end ≡ Ok whole))
+          → (then_files place r (λ next. trail_of_files ignores (room - length x.bytes) (file_ended next) (place + 1) xs)).end ≡ Ok mid
+          → (then_files place r (λ next. trail_of_files ignores (room - length x.bytes) (file_ended next) (place + 1) (xs ++ files))).end ≡ Ok whole
+          → (left : ℕ) × (from : ℕ) × ((trail_of_files ignores left mid from files).end ≡ Ok whole)
       go (Err r) later e f = absurd (cc (e))
       go (Ok n) later e f = later n e f
 

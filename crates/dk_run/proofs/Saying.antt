@@ -1,6 +1,6 @@
 -- What each end of a run says.
 use Rattle.std.proofs.Common.{◌≡◌, ◌≢◌, ◌≤◌, ◌<◌, ◌+◌, ◌-◌, inl, inr, ℕ, zero, suc, List, [], ◌∷◌, ◌++◌, map, take, length, get_or, Option, Some, None, Result, Ok, Err, All, refl, sym, ◌∙◌, ap, subst, arith}
-use Rattle.std.proofs.lemmas.List.{length-take, take_all}
+use Rattle.std.proofs.lemmas.List.{length-map, length-take, map-append, take_all}
 use Rattle.std.specs.Io.{StartsWith}
 use Rattle.std.specs.Io.KnownBytes.{append_known}
 use Rattle.std.specs.Option.{option_map_or}
@@ -31,12 +31,15 @@ use Rattle.dk_run.specs.AllFiles.{AreCalmUnless, AreReadTo, FilesGive, FilesTrou
 use Rattle.dk_run.specs.Commands.{file_names, generated_count, helds_of}
 use Rattle.dk_run.specs.declared.starting.Beginning.{Beginning}
 use Rattle.dk_run.specs.Beginning.{HasCome, IsLeft, IsRefusedState, StartFaultGives, state_name}
-use Rattle.dk_run.specs.Courses.{Course, Outset, fault_in}
+use Rattle.dk_driver.specs.Trails.{Outset, Step, Trail, fault_in}
+use Rattle.dk_run.specs.Courses.{course_along, course_of, histories_of}
 use Rattle.dk_run.specs.Starts.{Begins, HasBegun}
 use Rattle.dk_run.specs.Ending.{EndsBy}
 use Rattle.dk_print.specs.Sections.{end_line}
 use Rattle.dk_run.specs.Outputs.{first_line, output_along, output_of, saved_state, unread_output}
-use Rattle.dk_run.specs.Reports.{due_reports, whole_report}
+use Rattle.dk_run.specs.Reports.{due_from, due_reports, whole_report}
+use Rattle.dk_run.specs.WholeFile.{IsBehind}
+use Rattle.dk_presence.specs.Patterns.{capped}
 use Rattle.dk_run.specs.Statuses.{AreRead, ComesTo, IsCutShort, IsRefused, IsStateRefused, IsStateUnread, IsUnread, OutputIsWritten, Says, StateUnreadGives}
 use Rattle.dk_program.specs.Telling.{CutsText, HaltHasCause}
 use Rattle.dk_run.specs.Telling.{CutOff, StateCut, StateTold, ToldWhole}
@@ -46,8 +49,10 @@ use Rattle.dk_program.specs.declared.reporting.Halt.{Halt}
 use Rattle.dk_program.specs.declared.reporting.Halt.TheVariants as w
 use Rattle.dk_events.specs.declared.ended.Ended.{Ended}
 use Rattle.dk_events.specs.declared.ended.Ended.TheVariants.{Done, Refused, Usage, Read, Write, NoMemory}
-use Rattle.dk_run.proofs.Placing.{helds_length, names_length, rose_since}
-use Rattle.dk_run.proofs.Running.{alone}
+use Rattle.dk_driver.proofs.Complete.{front_held}
+use Rattle.dk_driver.proofs.Running.{alone, rose_since}
+use Rattle.dk_run.proofs.Filing.{due_append}
+use Rattle.dk_run.proofs.Placing.{helds_length, names_length}
 use Rattle.dk_run.proofs.Starts.{starts_begin_alike}
 use Rattle.dk_run.proofs.Writing.{added_more, front_all, front_behind, front_more, front_take, known_nothing}
 
@@ -152,16 +157,10 @@ at_get (n ∷ ns) (suc k) d h = at_get ns k d (omega arith)
 all_there : (helds : List HeldFile) → ((k : ℕ) → k < length helds → held_file_at helds k ≢ Absent) → All (λ held. held ≢ Absent) helds
 all_there helds there = λ k d h. subst (λ (held : HeldFile). held ≢ Absent) (at_get helds k d h) (there k h)
 
-pub held-take : (helds : List HeldFile) (n k : ℕ) → k < n → held_file_at (take n helds) k ≡ held_file_at helds k
-held-take helds zero k h = absurd (omega arith)
-held-take [] (suc n) k h = refl
-held-take (x ∷ xs) (suc n) zero h = refl
-held-take (x ∷ xs) (suc n) (suc k) h = held-take xs n k (omega arith)
-
 front_there : (helds : List HeldFile) (n : ℕ) → ((k : ℕ) → k < n → held_file_at helds k ≢ Absent) → All (λ held. held ≢ Absent) (take n helds)
 front_there helds n there = all_there (take n helds) (λ k below. here k (omega (arith, below, length-take n helds))) where
   here : (k : ℕ) → k < n → held_file_at (take n helds) k ≢ Absent
-  here k below = subst (λ (held : HeldFile). held ≢ Absent) (sym (held-take helds n k below)) (there k below)
+  here k below = subst (λ (held : HeldFile). held ≢ Absent) (sym (front_held helds n k below)) (there k below)
 
 pub same_length : (command : Command) (file : List ℕ → HeldFile) → length (file_names command) ≡ length (helds_of command file)
 same_length command file = names_length command ∙ sym (helds_length command file)
@@ -178,6 +177,7 @@ pub record Begun (command : Command) (before : Outside) (rest : Option (List ℕ
 -- all files were read
 are_read : {F : Type 0} (command : Command) (before after : Outside) (rest : Option (List ℕ)) (s : Session F) (room : ℕ) (text : List ℕ) → Begun command before rest
     → AreReadTo command before.file rest after.rest s room (length (file_names command)) text → AreRead command before after
+unfolding course_of
 are_read command before after rest s room text behind read = record {
   begun = behind.begun;
   none_absent = all_there (helds_of command before.file) (λ k h. read.there k (omega (arith, h, same_length command before.file)));
@@ -197,14 +197,16 @@ ended_output : {F : Type 0} (command : Command) (before after : Outside) (rest :
     → (read : AreReadTo command before.file rest after.rest s room (length (file_names command)) text)
     → (start : Outset) → Begins command.resume before.file start → (contents : List (List ℕ)) → AreHeldFiles (helds_of command before.file) contents
     → (h : History) × SessionStandsFor s h × (output_of start command (map ended_file contents) ≡ with_state (first_line command) (text ++ last_due command (blocks_of s) h) (saved_state command h))
-unfolding output_of
+unfolding output_of course_of
 ended_output command before after rest s room text read start begins contents held =
-    let on = read.runs start (starts_begin_alike command.resume before.file start begins) contents (held_all command before.file contents held) in (
+    let on = read.runs start (starts_begin_alike command.resume before.file start begins) contents (held_all command before.file contents held) in
+    let behind : IsBehind command (Begins command.resume before.file start) s text on.history on.steps = on.stands in
+    let counted : capped (length (histories_of on.steps)) ≡ blocks_of s = ap capped (length-map on.steps (λ (step : Step). step.history)) ∙ sym behind.fed.counts in (
       on.history,
-      on.from.stands begins,
-      ap (output_along command) (alone start command (Begins command.resume before.file start) rest after.rest s room (length (file_names command)) text contents on)
-          ∙ ap (λ (n : ℕ). with_state (first_line command) (due_reports command on.after ++ last_due command n on.history) (saved_state command on.history)) (sym on.counts)
-          ∙ ap (λ (l : List ℕ). with_state (first_line command) (l ++ last_due command (blocks_of s) on.history) (saved_state command on.history)) (sym (on.told begins)),
+      behind.fed.goes.stands begins,
+      ap (λ (t : Trail FaultAt). output_along command (course_along t)) (alone start command.ignore_missing_entry rest after.rest (IsBehind command (Begins command.resume before.file start) s text) room (generated_count command) (length (file_names command)) contents on)
+          ∙ ap (λ (n : ℕ). with_state (first_line command) (due_reports command (histories_of on.steps) ++ last_due command n on.history) (saved_state command on.history)) counted
+          ∙ ap (λ (l : List ℕ). with_state (first_line command) (l ++ last_due command (blocks_of s) on.history) (saved_state command on.history)) (sym (behind.written begins)),
     )
 
 -- the texts behind the first line, one behind another
@@ -284,6 +286,7 @@ state_says command before after rest s room mid mid2 mid3 between between2 text 
 -- ---- troubles
 short_within : (command : Command) (before after : Outside) (text : List ℕ) → HasBegun command.resume before.file → after.written ≡ with_bytes (with_bytes before.written Messages (first_line command)) Report text → IsShortTo command before.file text
     → IsCutShort (Some (Run command)) before after
+unfolding course_of
 short_within command before after text begun e short = inr (inl (inl (record {
   begun = begun;
   front = so_far (first_line command) text;
@@ -292,59 +295,63 @@ short_within command before after text begun e short = inr (inl (inl (record {
   no_state = refl;
   place = short.place;
   none_absent = front_there (helds_of command before.file) short.place short.there;
-  due = short.due;
+  due = λ start begins contents held files.
+      let (steps, more, part, all) = short.short start (starts_begin_alike command.resume before.file start begins) contents held files in
+      subst (λ (l : List ℕ). StartsWith l text)
+      (sym (ap (λ (l : List Step). due_reports command (histories_of l)) all ∙ ap (due_reports command) (map-append (λ (step : Step). step.history) steps more) ∙ due_append command 1 (histories_of steps) (histories_of more)))
+      (front_more (due_reports command (histories_of steps)) (due_from command (1 + length (histories_of steps)) (histories_of more)) text (part begins));
 })))
 
 refused_comes : (command : Command) (before after : Outside) (text : List ℕ) (place line : ℕ) (why : Why) → HasBegun command.resume before.file → IsRefusedAt command before.file text place line why
     → IsRefused command before after (so_far (first_line command ++ fault_line (file_name_at (file_names command) place) line why) text)
-unfolding output_of
-refused_comes command before after text place line why begun at = record {
+unfolding output_of course_of
+refused_comes command before after text place line why begun gives = record {
   begun = begun;
   fault = record { file = place; line = line; why = why };
-  named = omega (arith, at.named, same_length command before.file);
-  none_absent = front_there (helds_of command before.file) (place + 1) at.there;
+  named = omega (arith, gives.named, same_length command before.file);
+  none_absent = front_there (helds_of command before.file) (place + 1) gives.at.there;
   messages = refl;
   no_state = refl;
-  clean_before = at.clean;
-  first = λ start begins contents held. let (after, told, e) = at.gives start begins contents held in ap (λ (c : Course FaultAt). fault_in c.end) e;
-  defined = λ start begins contents held. let (after, told, e) = at.gives start (starts_begin_alike command.resume before.file start begins) contents held in
-      ap (λ (l : List ℕ). so_far (first_line command ++ fault_line (file_name_at (file_names command) place) line why) l) (told begins) ∙ ap (output_along command) (sym e);
+  clean_before = gives.at.clean;
+  first = λ start begins contents held. let (steps, told, e) = gives.at.first start begins contents held in ap (λ (t : Trail FaultAt). fault_in t.end) e;
+  defined = λ start begins contents held. let (steps, told, e) = gives.at.first start (starts_begin_alike command.resume before.file start begins) contents held in
+      ap (λ (l : List ℕ). so_far (first_line command ++ fault_line (file_name_at (file_names command) place) line why) l) (told begins) ∙ ap (λ (t : Trail FaultAt). output_along command (course_along t)) (sym e);
 }
 
 unstarted_comes : (command : Command) (before after : Outside) (rest : Option (List ℕ)) (text : List ℕ) (place : ℕ) → Begun command before rest → IsUnreadAt AtStart command before.file rest after.rest text place
     → HasBroken AtStart (held_file_at (helds_of command before.file) place) (Rose before.read_faults after.read_faults)
     → IsUnread command before after (so_far (first_line command ++ unread_line (file_name_at (file_names command) place)) text)
-unfolding unread_output
-unstarted_comes command before after rest text place behind at cause = record {
+unfolding unread_output course_of
+unstarted_comes command before after rest text place behind gives cause = record {
   begun = behind.begun;
   place = place;
-  named = omega (arith, at.named, same_length command before.file);
-  by_the_words = at.behind;
+  named = omega (arith, gives.named, same_length command before.file);
+  by_the_words = gives.behind;
   by = AtStart;
   cause = cause;
-  none_absent = front_there (helds_of command before.file) place at.there;
+  none_absent = front_there (helds_of command before.file) place gives.at.there;
   messages = refl;
   no_state = refl;
-  clean_before = at.clean;
-  defined = λ start begins contents held. let e = at.gives start begins contents held in (e.0 ∙ ap (rest_behind (place - generated_count command)) (behind.left start begins), λ begun. ap (λ (l : List ℕ). so_far (first_line command ++ unread_line (file_name_at (file_names command) place)) l) (e.1 begun));
+  clean_before = gives.at.clean;
+  defined = λ start begins contents held. let e = gives.at.left start begins contents held in (e.0 ∙ ap (rest_behind (place - generated_count command)) (behind.left start begins), λ begun. ap (λ (l : List ℕ). so_far (first_line command ++ unread_line (file_name_at (file_names command) place)) l) (e.1 begun));
 }
 
 unread_comes : (command : Command) (before after : Outside) (rest : Option (List ℕ)) (text : List ℕ) (place : ℕ) → Begun command before rest → IsUnreadAt Within command before.file rest after.rest text place
     → HasBroken Within (held_file_at (helds_of command before.file) place) (Rose before.read_faults after.read_faults)
     → IsUnread command before after (so_far (first_line command ++ unread_line (file_name_at (file_names command) place)) text)
-unfolding unread_output
-unread_comes command before after rest text place behind at cause = record {
+unfolding unread_output course_of
+unread_comes command before after rest text place behind gives cause = record {
   begun = behind.begun;
   place = place;
-  named = omega (arith, at.named, same_length command before.file);
-  by_the_words = at.behind;
+  named = omega (arith, gives.named, same_length command before.file);
+  by_the_words = gives.behind;
   by = Within;
   cause = cause;
-  none_absent = front_there (helds_of command before.file) place at.there;
+  none_absent = front_there (helds_of command before.file) place gives.at.there;
   messages = refl;
   no_state = refl;
-  clean_before = at.clean;
-  defined = λ start begins contents held xs holds. let (delivered, is, fine, told) = at.gives start begins contents held xs holds in
+  clean_before = gives.at.clean;
+  defined = λ start begins contents held xs holds. let (delivered, is, fine, told) = gives.at.left start begins contents held xs holds in
       (delivered, is, fine, λ begun. ap (λ (l : List ℕ). so_far (first_line command ++ unread_line (file_name_at (file_names command) place)) l) (told begun));
 }
 

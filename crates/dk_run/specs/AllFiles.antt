@@ -1,71 +1,32 @@
 -- What reading all files of a run comes to.
-use Rattle.std.specs.Prelude.{◌≡◌, ◌≢◌, ◌≤◌, ◌<◌, ◌+◌, ◌-◌, ℕ, List, [], ◌∷◌, ◌++◌, map, take, length, Option, None, Result, Ok, Err}
-use Rattle.std.specs.Io.{StartsWith}
+use Rattle.std.specs.Prelude.{◌≡◌, ◌≤◌, ◌<◌, ℕ, List, length, Option, Result, Ok, Err}
 use Rattle.dk_base.specs.declared.why.Why.{Why}
-use Rattle.dk_io.specs.Outside.{HeldFile, Absent, Holds, Rose}
+use Rattle.dk_io.specs.Outside.{HeldFile, Rose}
 use Rattle.dk_lines.specs.Reading.{Reading, room_of}
-use Rattle.dk_blocks.specs.History.{History}
-use Rattle.dk_core.specs.Standing.{blocks_of}
 use Rattle.dk_core.specs.declared.session.Session.{Session}
 use Rattle.dk_words.specs.declared.command.Command.{Command}
-use Rattle.dk_driver.specs.Files.{AreHeldFiles, File, ended_file}
-use Rattle.dk_driver.specs.Reads.{AtStart, Break, HasBroken, IsDelivered, Within, held_file_at, rest_behind}
+use Rattle.dk_driver.specs.AllFiles.{AreReadTo as FilesAreReadTo, AreRefusedAt, AreShortTo, AreUnreadAt}
+use Rattle.dk_driver.specs.Reads.{AtStart, Break, HasBroken, Within, held_file_at}
 use Rattle.dk_run.specs.Commands.{file_names, generated_count, helds_of}
-use Rattle.dk_run.specs.Courses.{Outset, behind_histories, course_of, course_of_files, first_fault}
-use Rattle.dk_presence.specs.Patterns.{capped}
-use Rattle.dk_run.specs.Reports.{due_reports}
 use Rattle.dk_run.specs.Starts.{Begins, BeginsLike}
-use Rattle.dk_run.specs.Statuses.{AreClean}
-use Rattle.dk_run.specs.WholeFile.{GoesOnFrom}
+use Rattle.dk_run.specs.WholeFile.{IsBehind, IsWritten, IsWrittenInPart}
 use Rattle.dk_run.specs.declared.reading.Trouble.{Trouble}
 use Rattle.dk_run.specs.declared.reading.Trouble.TheVariants as t
 use Rattle.dk_run.specs.declared.reading.FilesTrouble.{FilesTrouble}
 use Rattle.dk_run.specs.declared.reading.FilesTrouble.TheVariants.{Refused, Start, Read, Write, NoMemory}
 
--- The files in front of this place were read, which hold these contents: the run over them and any others, behind this start, goes on from
--- here. Where it has Begun with the start, the reports that were due are told.
-pub record RunsOn {F : Type 0} (start : Outset) (command : Command) (Begun : Type 0) (before rest : Option (List ℕ)) (session : Session F)
-    (room place : ℕ) (text : List ℕ) (contents : List (List ℕ)) : Type 0 where
-  pub after : List History
-  pub history : History
-  pub from : GoesOnFrom Begun session history
-  pub counts : blocks_of session ≡ capped (length after)
-  pub told : Begun → text ≡ due_reports command after
-  pub rest_is : rest ≡ rest_behind (place - generated_count command) before
-  pub goes : (files : List File)
-      → course_of start command.ignore_missing_entry (map ended_file contents ++ files)
-      ≡ behind_histories after (course_of_files command.ignore_missing_entry room history place files)
-
--- The files in front of this place were read, whatever they hold.
-pub record AreReadTo {F : Type 0} (command : Command) (file : List ℕ → HeldFile) (before rest : Option (List ℕ)) (session : Session F)
-    (room place : ℕ) (text : List ℕ) : Type 0 where
-  pub there : (k : ℕ) → k < place → held_file_at (helds_of command file) k ≢ Absent
-  pub clean : AreClean command file place
-  pub runs : (start : Outset) → BeginsLike command.resume file start → (contents : List (List ℕ))
-      → AreHeldFiles (take place (helds_of command file)) contents
-      → RunsOn start command (Begins command.resume file start) before rest session room place text contents
+-- The files in front of this place were read, whatever they hold, and this text was written for them.
+abbrev pub AreReadTo : {F : Type 0} → Command → (List ℕ → HeldFile) → Option (List ℕ) → Option (List ℕ) → Session F → ℕ → ℕ → List ℕ
+    → Type 0
+AreReadTo command file before rest session room place text =
+    FilesAreReadTo (BeginsLike command.resume file) command.ignore_missing_entry (helds_of command file) before rest
+    (λ start. IsBehind command (Begins command.resume file start) session text) room (generated_count command) place
 
 -- The files up to this place hold this fault as their first, and where the run begins with the start, the reports that were due are told.
 pub record IsRefusedAt (command : Command) (file : List ℕ → HeldFile) (text : List ℕ) (place line : ℕ) (why : Why) : Type 0 where
   pub named : place < length (helds_of command file)
-  pub there : (k : ℕ) → k < place + 1 → held_file_at (helds_of command file) k ≢ Absent
-  pub clean : AreClean command file place
-  pub gives : (start : Outset) → BeginsLike command.resume file start → (contents : List (List ℕ))
-      → AreHeldFiles (take (place + 1) (helds_of command file)) contents →
-      (after : List History) × (Begins command.resume file start → text ≡ due_reports command after)
-      × (course_of start command.ignore_missing_entry (map ended_file contents)
-      ≡ record { after = after; end = Err (record { file = place; line = line; why = why }) })
-
--- What is told where a file can't be read, behind files of these contents; of the reports where the run has Begun with this start.
-abbrev pub BreakGives : Break → Outset → Command → Type 0 → ℕ → HeldFile
-    → Option (List ℕ) → Option (List ℕ) → List ℕ → List (List ℕ) → Type 0
-BreakGives AtStart start command Begun place held before rest text contents =
-    (rest ≡ rest_behind (place - generated_count command) before)
-    × (Begun → text ≡ due_reports command (course_of start command.ignore_missing_entry (map ended_file contents)).after)
-BreakGives Within start command Begun place held before rest text contents = (xs : List ℕ) → held ≡ Holds xs →
-    (delivered : File) × IsDelivered xs rest delivered
-    × (first_fault start command.ignore_missing_entry (map ended_file contents ++ delivered ∷ []) ≡ None)
-    × (Begun → text ≡ due_reports command (course_of start command.ignore_missing_entry (map ended_file contents ++ delivered ∷ [])).after)
+  pub at : AreRefusedAt (BeginsLike command.resume file) command.ignore_missing_entry (helds_of command file)
+      (λ start. IsWritten command (Begins command.resume file start) text) place line why
 
 -- The file at this place, a named one, could not be read. What was delivered holds no fault, and where the run begins with the start, the
 -- reports that are due within it are told.
@@ -73,20 +34,14 @@ pub record IsUnreadAt (by : Break) (command : Command) (file : List ℕ → Held
     (place : ℕ) : Type 0 where
   pub behind : generated_count command ≤ place
   pub named : place < length (helds_of command file)
-  pub there : (k : ℕ) → k < place → held_file_at (helds_of command file) k ≢ Absent
-  pub clean : AreClean command file place
-  pub gives : (start : Outset) → BeginsLike command.resume file start → (contents : List (List ℕ))
-      → AreHeldFiles (take place (helds_of command file)) contents
-      → BreakGives by start command (Begins command.resume file start) place
-      (held_file_at (helds_of command file) place) before rest text contents
+  pub at : AreUnreadAt by (BeginsLike command.resume file) command.ignore_missing_entry (helds_of command file) before rest
+      (λ start. IsWritten command (Begins command.resume file start) text) (generated_count command) place
 
 -- a front of the reports that are due is told, whatever files follow those in front of a place
-pub record IsShortTo (command : Command) (file : List ℕ → HeldFile) (text : List ℕ) : Type 0 where
-  pub place : ℕ
-  pub there : (k : ℕ) → k < place → held_file_at (helds_of command file) k ≢ Absent
-  pub due : (start : Outset) → Begins command.resume file start → (contents : List (List ℕ))
-      → AreHeldFiles (take place (helds_of command file)) contents → (files : List File) →
-      StartsWith (due_reports command (course_of start command.ignore_missing_entry (map ended_file contents ++ files)).after) text
+abbrev pub IsShortTo : Command → (List ℕ → HeldFile) → List ℕ → Type 0
+IsShortTo command file text =
+    AreShortTo (BeginsLike command.resume file) command.ignore_missing_entry (helds_of command file)
+    (λ start. IsWrittenInPart command (Begins command.resume file start) text)
 
 -- what a trouble with the files says
 abbrev pub FilesTroubleGives : Command → (List ℕ → HeldFile) → Option (List ℕ) → List ℕ → FilesTrouble → Option (List ℕ) → Type 0

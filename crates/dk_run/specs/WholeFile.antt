@@ -1,161 +1,110 @@
--- What reading one file comes to.
-use Rattle.std.specs.Prelude.{◌≡◌, ◌⊎◌, ◌+◌, ◌-◌, ℕ, Bool, true, false, List, [], ◌++◌, length, Option, Some, Result, Ok, Err}
+-- What reading one file comes to: what the session was fed, and beside it what was written.
+use Rattle.std.specs.Prelude.{◌≡◌, ◌++◌, ℕ, List, [], length, Option, Some, Result, Ok, Err}
 use Rattle.std.specs.Io.{StartsWith}
-use Rattle.dk_base.specs.Reading.{LineFault}
-use Rattle.dk_io.specs.Outside.{Rose}
-use Rattle.dk_lines.specs.Reading.{Reading, room_of}
-use Rattle.dk_blocks.specs.Blocks.{Groups}
-use Rattle.dk_blocks.specs.History.{History, effect_of, file_ended}
-use Rattle.dk_core.specs.Standing.{SessionReadsFor, SessionStandsFor, blocks_of, over_of}
-use Rattle.dk_blocks.specs.LastLines.{LeavesBlank, ends_in_blank_line}
-use Rattle.dk_blocks.specs.Steps.{groups_left}
-use Rattle.dk_core.specs.declared.session.Session.{Session}
-use Rattle.dk_words.specs.declared.command.Command.{Command}
-use Rattle.dk_run.specs.Courses.{Course, behind_histories, course_of_groups}
-use Rattle.dk_presence.specs.Patterns.{capped}
-use Rattle.dk_run.specs.Reports.{due_from}
 use Rattle.dk_base.specs.declared.faults.Fault.{Fault}
 use Rattle.dk_base.specs.declared.faults.Fault.TheVariants as fault
+use Rattle.dk_io.specs.Outside.{HeldFile, Rose}
+use Rattle.dk_lines.specs.Reading.{Reading}
+use Rattle.dk_blocks.specs.History.{History}
+use Rattle.dk_core.specs.Standing.{SessionReadsFor, SessionStandsFor, blocks_of}
+use Rattle.dk_core.specs.declared.session.Session.{Session}
+use Rattle.dk_words.specs.declared.command.Command.{Command}
+use Rattle.dk_driver.specs.Trails.{Outset, Step}
+use Rattle.dk_driver.specs.WholeFile.{ComesToEnd, HasFault, IsBroken, IsShort}
+pub use Rattle.dk_driver.specs.WholeFile.{fresh_reading}
+use Rattle.dk_presence.specs.Patterns.{capped}
+use Rattle.dk_run.specs.Courses.{histories_of}
+use Rattle.dk_run.specs.Reports.{due_reports}
+use Rattle.dk_run.specs.Starts.{Begins}
 use Rattle.dk_program.specs.declared.reporting.Halt.{Halt}
 use Rattle.dk_program.specs.declared.reporting.Halt.TheVariants as halt
 use Rattle.dk_run.specs.declared.reading.Trouble.{Trouble}
 use Rattle.dk_run.specs.declared.reading.Trouble.TheVariants.{Refused, Start, Read, Write, NoMemory}
-
--- the course over groups of lines behind a history
-abbrev pub course_behind : Bool → History → Groups → Course LineFault
-course_behind ignores history groups = course_of_groups ignores (effect_of ignores history) groups
-
--- Within a file: behind these histories, what the first history says of what was left is what the next one says of what is left now. So it
--- is of a file that is cut off, unless it is cut off behind its last line and no LF ends that; where this isn't the file's end, that line
--- is blank.
-pub record Within (ignores : Bool) (history : History) (old : Reading) (xs : List ℕ) (after : List History) (next : History)
-    (is_over : Bool) (new : Reading) (ys : List ℕ) : Type 0 where
-  pub front : List ℕ
-  pub split : xs ≡ front ++ ys
-  pub room : room_of new ≡ room_of old - length front
-  pub nothing : is_over ≡ true → ys ≡ []
-  pub last : LeavesBlank new ys → LeavesBlank old xs
-  pub same : course_behind ignores history (groups_left false old true xs)
-      ≡ behind_histories after (course_behind ignores next (groups_left is_over new true ys))
-  pub cut : (d rest : List ℕ) → ys ≡ d ++ rest →
-      (course_behind ignores history (groups_left false old false (front ++ d))
-      ≡ behind_histories after (course_behind ignores next (groups_left is_over new false d)))
-      ⊎ ((ys ≡ []) × (is_over ≡ false → LeavesBlank old xs))
 
 -- A session goes on from a history: its reader stands for it, and where the session Stood for the one in front, all of it does.
 pub record GoesOnFrom {F : Type 0} (Stood : Type 0) (session : Session F) (history : History) : Type 0 where
   pub reads : SessionReadsFor session history
   pub stands : Stood → SessionStandsFor session history
 
--- The session goes on from a history within the file, in front of which n blocks were read, and where it Stood for the one in front of the
--- file, the reports that were due are told.
-pub record FileGoesOn {F : Type 0} (command : Command) (n : ℕ) (history : History) (Stood : Type 0) (old : Reading) (xs text : List ℕ)
-    (session : Session F) (new : Reading) (left : Option (List ℕ)) : Type 0 where
-  pub after : List History
-  pub next : History
-  pub goes : GoesOnFrom Stood session next
-  pub counts : blocks_of session ≡ capped (n + length after)
-  pub told : Stood → text ≡ due_from command (n + 1) after
-  pub ys : List ℕ
-  pub left_is : left ≡ Some ys
-  pub within : Within command.ignore_missing_entry history old xs after next (over_of session) new ys
+-- The session was fed these steps of a run, which may have begun so: it goes on from the history behind them, and has counted them.
+pub record IsFed {F : Type 0} (Begun : Type 0) (session : Session F) (history : History) (steps : List Step) : Type 0 where
+  pub goes : GoesOnFrom Begun session history
+  pub counts : blocks_of session ≡ capped (length steps)
 
--- The file's bytes xs up to its end come to a history, and where the session Stood for the one in front, the reports that were due are
--- told.
-pub record ComesToEnd {F : Type 0} (command : Command) (n : ℕ) (history : History) (Stood : Type 0) (old : Reading) (xs text : List ℕ)
-    (session : Session F) (new : Reading) (left : Option (List ℕ)) : Type 0 where
-  pub after : List History
-  pub next : History
-  pub goes : GoesOnFrom Stood session (file_ended next)
-  pub counts : blocks_of session ≡ capped (n + length after)
-  pub told : Stood → text ≡ due_from command (n + 1) after
-  pub nothing_left : left ≡ Some []
-  pub room : room_of new ≡ room_of old - length xs
-  pub all : course_behind command.ignore_missing_entry history (groups_left false old true xs) ≡ record { after = after; end = Ok next }
+-- Where the run has begun so, this text is the reports that are due within these steps.
+abbrev pub IsWritten : Command → Type 0 → List ℕ → List Step → Type 0
+IsWritten command Begun text steps = Begun → text ≡ due_reports command (histories_of steps)
 
--- The file's bytes xs hold this fault, and where the session Stood for the history, the reports that were due are told.
-pub record HasFault (command : Command) (n : ℕ) (history : History) (Stood : Type 0) (old : Reading) (xs text : List ℕ)
-    (fault : LineFault) : Type 0 where
-  pub after : List History
-  pub told : Stood → text ≡ due_from command (n + 1) after
-  pub all : course_behind command.ignore_missing_entry history (groups_left false old true xs) ≡ record { after = after; end = Err fault }
+-- it is a front of them
+abbrev pub IsWrittenInPart : Command → Type 0 → List ℕ → List Step → Type 0
+IsWrittenInPart command Begun text steps = Begun → StartsWith (due_reports command (histories_of steps)) text
 
--- Of the file's bytes xs a front without a fault was delivered, and where the session Stood for the history, the reports that are due
--- within it are told. Where it is all, and ends in a blank line without LF, it may count as ended.
-pub record IsBroken (command : Command) (n : ℕ) (history : History) (Stood : Type 0) (old : Reading) (xs text : List ℕ)
-    (left : Option (List ℕ)) : Type 0 where
-  pub front : List ℕ
-  pub rest : List ℕ
-  pub left_is : left ≡ Some rest
-  pub split : xs ≡ front ++ rest
-  pub is_ended : Bool
-  pub ended : is_ended ≡ true → (rest ≡ []) × (ends_in_blank_line xs ≡ true)
-  pub after : List History
-  pub told : Stood → text ≡ due_from command (n + 1) after
-  pub next : History
-  pub all : course_behind command.ignore_missing_entry history (groups_left false old is_ended front)
-      ≡ record { after = after; end = Ok next }
-
--- Where the session Stood for the history, a front of the reports that are due within the file's bytes xs is told.
-pub record IsShort (command : Command) (n : ℕ) (history : History) (Stood : Type 0) (old : Reading) (xs text : List ℕ) : Type 0 where
-  pub after : List History
-  pub more : List History
-  pub all : (course_behind command.ignore_missing_entry history (groups_left false old true xs)).after ≡ after ++ more
-  pub told : Stood → StartsWith (due_from command (n + 1) after) text
-
--- a reader in front of the first line of a file
-abbrev pub fresh_reading : Reading → Reading
-fresh_reading r = record r { is_started = true; number = 0; ahead = []; line = [] }
+-- The session was fed these steps, and this text is what was written for them.
+pub record IsBehind {F : Type 0} (command : Command) (Begun : Type 0) (session : Session F) (text : List ℕ) (history : History)
+    (steps : List Step) : Type 0 where
+  pub fed : IsFed Begun session history steps
+  pub written : IsWritten command Begun text steps
 
 -- a reader that could not start a file
 abbrev pub unstarted_reading : Reading → Reading
 unstarted_reading r = record r { is_started = false; number = 0; ahead = []; line = [] }
 
--- What a trouble with the started file says, where n blocks were read before it and the bytes xs are left; of its text where the session
--- Stood for the history.
-abbrev pub TroubleGives : Command → ℕ → History → Type 0 → Reading → List ℕ → List ℕ → Trouble → Option (List ℕ) → Type 0
-TroubleGives command n history Stood old xs text (Refused line why) left =
-    HasFault command n history Stood old xs text (record { line = line; why = why })
-TroubleGives command n history Stood old xs text Start left = ⊥
-TroubleGives command n history Stood old xs text Read left = IsBroken command n history Stood old xs text left
-TroubleGives command n history Stood old xs text Write left = IsShort command n history Stood old xs text
-TroubleGives command n history Stood old xs text NoMemory left = IsShort command n history Stood old xs text
+-- What a trouble with the started file at this place says, where the bytes xs are left behind these steps, and the text is all that was
+-- written since the first of them.
+abbrev pub TroubleGives : Command → Type 0 → ℕ → History → List Step → Reading → List ℕ → List ℕ → Trouble → Option (List ℕ) → Type 0
+TroubleGives command Begun place history before old xs text (Refused line why) left =
+    HasFault command.ignore_missing_entry place history before old xs (IsWritten command Begun text) (record { line = line; why = why })
+TroubleGives command Begun place history before old xs text Start left = ⊥
+TroubleGives command Begun place history before old xs text Read left =
+    IsBroken command.ignore_missing_entry place history before old xs (IsWritten command Begun text) left
+TroubleGives command Begun place history before old xs text Write left =
+    IsShort command.ignore_missing_entry place history before old xs (IsWrittenInPart command Begun text)
+TroubleGives command Begun place history before old xs text NoMemory left =
+    IsShort command.ignore_missing_entry place history before old xs (IsWrittenInPart command Begun text)
 
 -- what reading the started file to its end comes to
-abbrev pub StartedGives : {F : Type 0} → Command → ℕ → History → Type 0 → Reading → List ℕ → List ℕ → Result (Session F) Trouble → Reading
-    → Option (List ℕ) → Type 0
-StartedGives command n history Stood old xs text (Ok session) new left = ComesToEnd command n history Stood old xs text session new left
-StartedGives command n history Stood old xs text (Err trouble) new left = TroubleGives command n history Stood old xs text trouble left
+abbrev pub StartedGives : {F : Type 0} → Command → Type 0 → ℕ → History → List Step → Reading → List ℕ → List ℕ → Result (Session F) Trouble
+    → Reading → Option (List ℕ) → Type 0
+StartedGives command Begun place history before old xs text (Ok session) new left =
+    ComesToEnd command.ignore_missing_entry place history before old xs (IsBehind command Begun session text) new left
+StartedGives command Begun place history before old xs text (Err trouble) new left =
+    TroubleGives command Begun place history before old xs text trouble left
 
 -- What a trouble with a file of the bytes xs says, where it was started.
-abbrev pub FileTroubleGives : Command → ℕ → History → Type 0 → Reading → List ℕ → List ℕ → Trouble → Option (List ℕ) → Type 0
-FileTroubleGives command n history Stood old xs text Start rest = Unit {0}
-FileTroubleGives command n history Stood old xs text (Refused line why) rest =
-    TroubleGives command n history Stood (fresh_reading old) xs text (Refused line why) rest
-FileTroubleGives command n history Stood old xs text Read rest = TroubleGives command n history Stood (fresh_reading old) xs text Read rest
-FileTroubleGives command n history Stood old xs text Write rest =
-    TroubleGives command n history Stood (fresh_reading old) xs text Write rest
-FileTroubleGives command n history Stood old xs text NoMemory rest =
-    TroubleGives command n history Stood (fresh_reading old) xs text NoMemory rest
+abbrev pub FileTroubleGives : Command → Type 0 → ℕ → History → List Step → Reading → List ℕ → List ℕ → Trouble → Option (List ℕ) → Type 0
+FileTroubleGives command Begun place history before old xs text Start rest = Unit {0}
+FileTroubleGives command Begun place history before old xs text trouble rest =
+    TroubleGives command Begun place history before (fresh_reading old) xs text trouble rest
 
 -- what reading a file of the bytes xs comes to
-abbrev pub FileGives : {F : Type 0} → Command → ℕ → History → Type 0 → Reading → List ℕ → List ℕ → Result (Session F) Trouble → Reading
-    → Option (List ℕ) → Type 0
-FileGives command n history Stood old xs text (Ok session) new rest =
-    ComesToEnd command n history Stood (fresh_reading old) xs text session new rest
-FileGives command n history Stood old xs text (Err trouble) new rest = FileTroubleGives command n history Stood old xs text trouble rest
+abbrev pub FileGives : {F : Type 0} → Command → Type 0 → ℕ → History → List Step → Reading → List ℕ → List ℕ → Result (Session F) Trouble
+    → Reading → Option (List ℕ) → Type 0
+FileGives command Begun place history before old xs text (Ok session) new rest =
+    ComesToEnd command.ignore_missing_entry place history before (fresh_reading old) xs (IsBehind command Begun session text) new rest
+FileGives command Begun place history before old xs text (Err trouble) new rest =
+    FileTroubleGives command Begun place history before old xs text trouble rest
 
 -- what reading the generated file comes to; each start and each read of it succeeds
-abbrev pub TextGives : {F : Type 0} → Command → ℕ → History → Type 0 → Reading → List ℕ → List ℕ → Result (Session F) Trouble → Reading
-    → Type 0
-TextGives command n history Stood old xs text (Ok session) new =
-    ComesToEnd command n history Stood (fresh_reading old) xs text session new (Some [])
-TextGives command n history Stood old xs text (Err (Refused line why)) new =
-    HasFault command n history Stood (fresh_reading old) xs text (record { line = line; why = why })
-TextGives command n history Stood old xs text (Err Start) new = Unit {0}
-TextGives command n history Stood old xs text (Err Read) new = Unit {0}
-TextGives command n history Stood old xs text (Err Write) new = IsShort command n history Stood (fresh_reading old) xs text
-TextGives command n history Stood old xs text (Err NoMemory) new = IsShort command n history Stood (fresh_reading old) xs text
+abbrev pub TextGives : {F : Type 0} → Command → Type 0 → History → List Step → Reading → List ℕ → List ℕ → Result (Session F) Trouble
+    → Reading → Type 0
+TextGives command Begun history before old xs text (Ok session) new =
+    ComesToEnd command.ignore_missing_entry 0 history before (fresh_reading old) xs (IsBehind command Begun session text) new (Some [])
+TextGives command Begun history before old xs text (Err (Refused line why)) new =
+    HasFault command.ignore_missing_entry 0 history before (fresh_reading old) xs (IsWritten command Begun text)
+    (record { line = line; why = why })
+TextGives command Begun history before old xs text (Err Start) new = Unit {0}
+TextGives command Begun history before old xs text (Err Read) new = Unit {0}
+TextGives command Begun history before old xs text (Err Write) new =
+    IsShort command.ignore_missing_entry 0 history before (fresh_reading old) xs (IsWrittenInPart command Begun text)
+TextGives command Begun history before old xs text (Err NoMemory) new =
+    IsShort command.ignore_missing_entry 0 history before (fresh_reading old) xs (IsWrittenInPart command Begun text)
+
+-- What is said of a file holds of a session behind steps of any run with this command, behind which this text was written.
+abbrev pub Behind : {F : Type 0} → Command → Session F → List ℕ → (Type 0 → List ℕ → History → List Step → Type 0) → Type 0
+Behind command session text Says =
+    (file : List ℕ → HeldFile) (start : Outset) (told : List ℕ) (h : History) (steps : List Step)
+    → IsBehind command (Begins command.resume file start) session told h steps
+    → Says (Begins command.resume file start) (told ++ text) h steps
 
 -- it is no failed start and no failed read
 abbrev pub IsNoBreak : {A : Type 0} → Result A Trouble → Type 0

@@ -4,18 +4,16 @@ ghost use Rattle.dk_generate.specs.Texts.{generated_name};
 ghost use Rattle.dk_io.specs.Outside.{Absent, HeldFile, Holds, Rose};
 ghost use Rattle.dk_io.specs.declared.outside.Stream.TheVariants as stream;
 ghost use Rattle.dk_lines.specs.Reading.{left_of, room_of};
-ghost use Rattle.dk_blocks.specs.History.{History};
 ghost use Rattle.dk_core.specs.Selecting.{SelectsBy};
-ghost use Rattle.dk_core.specs.Standing.{ReportsAlike, SessionReadsFor, SessionStandsFor, blocks_of, over_of, select_of};
+ghost use Rattle.dk_core.specs.Standing.{ReportsAlike, blocks_of, over_of, select_of};
 ghost use Rattle.dk_driver.specs.Files.{file_name_at};
 ghost use Rattle.dk_run.specs.AllFiles.{AreCalmBut, AreNoBreak, AreReadTo, FilesGive, IsCaused, files_trouble};
 ghost use Rattle.dk_run.specs.Beginning.{BeginsFrom};
 ghost use Rattle.dk_run.specs.Commands.{file_names, generated_count, helds_of, is_selected};
 ghost use Rattle.dk_run.specs.Courses.{Outset, line_limit};
 ghost use Rattle.dk_run.specs.Starts.{BeginsLike};
-ghost use Rattle.dk_presence.specs.Patterns.{capped};
 ghost use Rattle.dk_run.specs.Telling.{Added, ReportsBy};
-ghost use Rattle.dk_run.specs.WholeFile.{FileGives, IsCalmBut, IsNoBreak, StartedGives, TextGives, trouble_of_fault, trouble_of_halt, unstarted_reading};
+ghost use Rattle.dk_run.specs.WholeFile.{Behind, FileGives, IsCalmBut, IsNoBreak, StartedGives, TextGives, trouble_of_fault, trouble_of_halt, unstarted_reading};
 
 use crate::choosing::generated_count;
 use crate::reporting::tell_by_the_way;
@@ -89,9 +87,9 @@ fn read_started<F: Fn(&[u8]) -> bool + Drop, I: Inputs, S: Sinks>(
     requires reports { ReportsBy command.now session }
     requires callable { F.IsAlwaysCallable (select_of session) }
     requires selects { SelectsBy (F.post (select_of session)) (is_selected command.now) }
-    ensures gives { Added (S.written sinks.old) (S.written sinks.new) stream.Report (λ text.
-        (h : History) (n : ℕ) → SessionReadsFor session h → blocks_of session ≡ capped n → IfSome (left_of lines.old (I.rest inputs.old))
-        (λ xs. StartedGives command.now n h (SessionStandsFor session h) lines.old xs text result lines.new (left_of lines.new (I.rest inputs.new)))) }
+    ensures gives { Added (S.written sinks.old) (S.written sinks.new) stream.Report (λ text. (place : ℕ) →
+        Behind command.now session text (λ Begun all h steps. IfSome (left_of lines.old (I.rest inputs.old))
+        (λ xs. StartedGives command.now Begun place h steps lines.old xs all result lines.new (left_of lines.new (I.rest inputs.new))))) }
     ensures calm { IsCalmBut (S.faults sinks.old) (S.faults sinks.new) result }
     ensures over { IfOk result (λ next. over_of next ≡ false) }
     ensures alike { IfOk result (λ next. ReportsAlike session next) }
@@ -131,8 +129,8 @@ fn read_file<F: Fn(&[u8]) -> bool + Drop, I: Inputs, S: Sinks>(
     requires selects { SelectsBy (F.post (select_of session)) (is_selected command.now) }
     ensures gives { Added (S.written sinks.old) (S.written sinks.new) stream.Report (λ text.
         (result ≡ Err Trouble.Start → text ≡ [])
-        × ((h : History) (n : ℕ) → SessionReadsFor session h → blocks_of session ≡ capped n → (xs : List ℕ) → I.file inputs.old name.now ≡ Holds xs
-        → FileGives command.now n h (SessionStandsFor session h) lines.old xs text result lines.new (I.rest inputs.new))) }
+        × ((place : ℕ) → Behind command.now session text (λ Begun all h steps. (xs : List ℕ) → I.file inputs.old name.now ≡ Holds xs
+        → FileGives command.now Begun place h steps lines.old xs all result lines.new (I.rest inputs.new)))) }
     ensures calm { IsCalmBut (S.faults sinks.old) (S.faults sinks.new) result }
     ensures over { IfOk result (λ next. over_of next ≡ false) }
     ensures alike { IfOk result (λ next. ReportsAlike session next) }
@@ -238,7 +236,7 @@ fn read_text<F: Fn(&[u8]) -> bool + Drop, S: Sinks>(
     requires callable { F.IsAlwaysCallable (select_of session) }
     requires selects { SelectsBy (F.post (select_of session)) (is_selected command.now) }
     ensures gives { Added (S.written sinks.old) (S.written sinks.new) stream.Report (λ told.
-        (h : History) (n : ℕ) → SessionReadsFor session h → blocks_of session ≡ capped n → TextGives command.now n h (SessionStandsFor session h) lines.old text told result lines.new) }
+        Behind command.now session told (λ Begun all h steps. TextGives command.now Begun h steps lines.old text all result lines.new)) }
     ensures calm { IsCalmBut (S.faults sinks.old) (S.faults sinks.new) result }
     ensures over { IfOk result (λ next. over_of next ≡ false) }
     ensures alike { IfOk result (λ next. ReportsAlike session next) }

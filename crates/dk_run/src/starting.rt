@@ -65,7 +65,7 @@ fn read_state<I: Inputs>(alloc: Global, name: &str, inputs: &mut I) -> Result<Te
     }
 }
 
-// With no samples.
+// Begins a session without samples.
 fn begin_new<F: Fn(&[u8]) -> bool + Drop>(
     alloc: Global,
     command: &Command,

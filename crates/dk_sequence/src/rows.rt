@@ -10,7 +10,7 @@ ghost use Rattle.dk_template.specs.Templates.{form_of, role_kinds};
 ghost use Rattle.dk_template.specs.declared.templates.StateForm.{StateForm};
 
 use dk_base::{NoMemory, View};
-use dk_template::{RowId, State, join_states, template_at};
+use dk_template::{RowId, State, join_states, rows, template_at};
 use std::alloc::Global;
 
 /// The state of one tuple. Only row 47 wants memory.
@@ -21,7 +21,7 @@ pub fn point(alloc: Global, row: RowId, tuple: &[View<'_>]) -> Result<State, NoM
     ensures err { OnErr result (form_of row ≡ StateForm.Texts) }
 {
     let n = row.0;
-    if n <= 48 || 52 <= n && n <= 56 {
+    if n <= rows::ELT_NON_NULL_STR || rows::ELT_EQ <= n && n <= rows::ELT_GE {
         dk_elements::point(alloc, row, tuple)
     } else {
         dk_pairs::point(alloc, row, tuple)
@@ -47,7 +47,7 @@ pub fn stays(row: RowId, state: &State, tuple: &[View<'_>]) -> bool
     ensures { IsTrue result ↔ (joined (form_of row) state.now (state_of row (values_of tuple.now ∷ [])) ≡ state.now) }
 {
     let n = row.0;
-    if n <= 48 || 52 <= n && n <= 56 {
+    if n <= rows::ELT_NON_NULL_STR || rows::ELT_EQ <= n && n <= rows::ELT_GE {
         dk_elements::stays(row, state, tuple)
     } else {
         dk_pairs::stays(row, state, tuple)

@@ -34,7 +34,7 @@ fn keep_up(alloc: Global, splits: &mut Vec<Split>, points: &Points) -> Result<()
 }
 
 impl Splits {
-    // Of no points.
+    // The splits of no points.
     pub(crate) fn new(alloc: Global) -> Splits
         ensures fits { AreSplitsOf [] result.splits.items }
         ensures stands { StandsFor result [] [] }

@@ -121,7 +121,7 @@ impl<'a> Front<'a> {
         Front { left: self.left }
     }
 
-    /// Ends the reading.
+    /// Leaves nothing to be read.
     pub(crate) fn give_up(&mut self)
         ensures { self.new ≡ [] }
     {

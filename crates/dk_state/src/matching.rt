@@ -36,7 +36,7 @@ impl<'a> Model for Rest<'a> {
 }
 
 impl<'a> Rest<'a> {
-    // All bytes.
+    // Nothing of the bytes has been matched yet.
     fn of(bytes: &'a [u8]) -> Rest<'a>
         ensures { result ≡ Some bytes.now }
     {

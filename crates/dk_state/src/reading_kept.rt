@@ -189,6 +189,9 @@ fn tuple(vars: &[VarId], front: &mut Front<'_>) -> Tuple
     }
 }
 
+// A number that no row has.
+const NO_ROW: u8 = 0;
+
 // The row's number.
 fn row(front: &mut Front<'_>) -> RowId
     ensures read { (r : Row) (rest : List ℕ) → r.0 < 2 ^ 8 → BeginsWith ends_field rest → front.old ≡ behind_blank (decimal r.0) ++ rest → (result ≡ r) × (front.new ≡ rest) }
@@ -200,7 +203,7 @@ fn row(front: &mut Front<'_>) -> RowId
         return RowId(number as u8);
     }
     front.give_up();
-    RowId(0)
+    RowId(NO_ROW)
 }
 
 impl Entry for Slot {

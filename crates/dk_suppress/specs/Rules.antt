@@ -4,12 +4,27 @@ use Rattle.std.specs.List.{dedup, list_all, list_any, range_with_len}
 use Rattle.std.specs.Ordering.{int_eq}
 use Rattle.dk_base.specs.declared.kinds.VarId.{VarId}
 use Rattle.dk_forms.specs.declared.states.State.{State}
+use Rattle.dk_template.specs.Numbers.{and, difference, divides, elt_eq, elt_ge, elt_gt, elt_le, elt_lower, elt_lt, elt_non_zero, elt_upper, elts_equal, eq_hash_seq, eq_int, eq_int_seq, eq_str_seq, gcd, le, linear_ternary, lower_bound, lt, maximum, minimum, ne_int, non_zero, or, pair_le, pair_lt, product, quotient, remainder, reverse, sorted_ge, sorted_gt, sorted_le, sorted_lt, square, subset_hash, subset_int, subset_str, sum, upper_bound, xor}
 use Rattle.dk_template.specs.Premises.{premise_fits, row_of}
 use Rattle.dk_template.specs.declared.answers.Premise.{Premise}
 use Rattle.dk_template.specs.declared.answers.Premise.TheVariants.{Holds, LeastAtLeast, GreatestAtMost, Only}
 use Rattle.dk_template.specs.declared.grammar.RowId.{RowId}
 
 -- ---- the table
+-- the roles of a conclusion
+abbrev pub first : ℕ
+first = 0
+
+abbrev pub second : ℕ
+second = 1
+
+abbrev pub third : ℕ
+third = 2
+
+-- what is written for a role that a row doesn't have
+abbrev pub no_role : ℕ
+no_role = 0
+
 -- a rule: its conclusion, and its premises over the roles of the conclusion
 abbrev pub Rule : Type 0
 Rule = RowId × List Premise
@@ -17,12 +32,12 @@ Rule = RowId × List Premise
 abbrev pub rule : ℕ → List Premise → Rule
 rule conclusion premises = (record { 0 = conclusion }, premises)
 
--- the row holds over the roles; a role that the row doesn't have is written as 0
+-- the row holds over the roles
 abbrev pub holds_of_one : ℕ → ℕ → Premise
-holds_of_one row a = Holds (record { 0 = row }) (a ∷ 0 ∷ 0 ∷ [])
+holds_of_one row a = Holds (record { 0 = row }) (a ∷ no_role ∷ no_role ∷ [])
 
 abbrev pub holds_of_two : ℕ → ℕ → ℕ → Premise
-holds_of_two row a b = Holds (record { 0 = row }) (a ∷ b ∷ 0 ∷ [])
+holds_of_two row a b = Holds (record { 0 = row }) (a ∷ b ∷ no_role ∷ [])
 
 abbrev pub holds_of_three : ℕ → ℕ → ℕ → ℕ → Premise
 holds_of_three row a b c = Holds (record { 0 = row }) (a ∷ b ∷ c ∷ [])
@@ -34,70 +49,78 @@ least row role k = LeastAtLeast (record { 0 = row }) role k
 abbrev pub greatest : ℕ → ℕ → ℤ → Premise
 greatest row role k = GreatestAtMost (record { 0 = row }) role k
 
--- The rules, by their conclusions. x, y and z are numbers, s and t sequences. The roles are x, y, or s and t, or s and x, and in the
--- rows 24 to 34 they are z, x, y.
+-- The rules, by their conclusions. x, y and z are numbers, s and t sequences. The roles are x, y, or s and t, or s and x, and from
+-- Sum to Gcd they are z, x, y.
 unfoldable pub rules : List Rule
 rules =
-    rule 4 (least 2 0 (pos 1) ∷ [])  -- x != 0: x >= 1
-    ∷ rule 4 (greatest 3 0 (negsuc 0) ∷ [])  -- x != 0: x <= -1
-    ∷ rule 12 (holds_of_two 13 0 1 ∷ [])  -- x != y: x < y
-    ∷ rule 12 (holds_of_two 13 1 0 ∷ [])  -- x != y: y < x
-    ∷ rule 14 (holds_of_two 13 0 1 ∷ [])  -- x <= y: x < y
-    ∷ rule 14 (holds_of_two 11 0 1 ∷ [])  -- x <= y: x == y
-    ∷ rule 16 (holds_of_two 11 0 1 ∷ holds_of_one 4 1 ∷ [])  -- x % y == 0: x == y and y != 0
-    ∷ rule 16 (Only 1 (pos 1) ∷ [])  -- x % y == 0: y is only 1
-    ∷ rule 16 (Only 1 (negsuc 0) ∷ [])  -- x % y == 0: y is only -1
-    ∷ rule 16 (Only 0 (pos 0) ∷ holds_of_one 4 1 ∷ [])  -- x % y == 0: x is only 0 and y != 0
-    ∷ rule 17 (holds_of_two 11 0 1 ∷ least 2 0 (pos 0) ∷ greatest 3 0 (pos 1) ∷ [])  -- x == y * y: x == y and x >= 0 and x <= 1
-    ∷ rule 24 (holds_of_two 11 0 1 ∷ Only 2 (pos 0) ∷ [])  -- z == x + y: z == x and y is only 0
-    ∷ rule 24 (holds_of_two 11 0 2 ∷ Only 1 (pos 0) ∷ [])  -- z == x + y: z == y and x is only 0
-    ∷ rule 25 (holds_of_three 24 1 0 2 ∷ [])  -- z == x - y: x == z + y
-    ∷ rule 26 (holds_of_two 11 0 1 ∷ Only 2 (pos 1) ∷ [])  -- z == x * y: z == x and y is only 1
-    ∷ rule 26 (holds_of_two 11 0 2 ∷ Only 1 (pos 1) ∷ [])  -- z == x * y: z == y and x is only 1
-    ∷ rule 26 (Only 0 (pos 0) ∷ Only 1 (pos 0) ∷ [])  -- z == x * y: z is only 0 and x is only 0
-    ∷ rule 26 (Only 0 (pos 0) ∷ Only 2 (pos 0) ∷ [])  -- z == x * y: z is only 0 and y is only 0
-    ∷ rule 27 (holds_of_two 11 0 1 ∷ holds_of_two 14 1 2 ∷ [])  -- z == min(x, y): z == x and x <= y
-    ∷ rule 27 (holds_of_two 11 0 2 ∷ holds_of_two 14 2 1 ∷ [])  -- z == min(x, y): z == y and y <= x
-    ∷ rule 28 (holds_of_two 11 0 1 ∷ holds_of_two 14 2 1 ∷ [])  -- z == max(x, y): z == x and y <= x
-    ∷ rule 28 (holds_of_two 11 0 2 ∷ holds_of_two 14 1 2 ∷ [])  -- z == max(x, y): z == y and x <= y
-    ∷ rule 29 (holds_of_two 11 0 1 ∷ Only 2 (pos 1) ∷ [])  -- z == x / y: z == x and y is only 1
-    ∷ rule 29 (Only 0 (pos 0) ∷ Only 1 (pos 0) ∷ holds_of_one 4 2 ∷ [])  -- z == x / y: z is only 0 and x is only 0 and y != 0
-    ∷ rule 29 (Only 0 (pos 1) ∷ holds_of_two 11 1 2 ∷ holds_of_one 4 2 ∷ [])  -- z == x / y: z is only 1 and x == y and y != 0
-    ∷ rule 29 (Only 0 (pos 0) ∷ least 2 1 (pos 0) ∷ holds_of_two 13 1 2 ∷ [])  -- z == x / y: z is only 0 and x >= 0 and x < y
-    ∷ rule 30 (Only 0 (pos 0) ∷ holds_of_two 16 1 2 ∷ [])  -- z == x % y: z is only 0 and x % y == 0
-    ∷ rule 30 (holds_of_two 11 0 1 ∷ least 2 1 (pos 0) ∷ holds_of_two 13 1 2 ∷ [])  -- z == x % y: z == x and x >= 0 and x < y
-    ∷ rule 31 (holds_of_two 11 0 1 ∷ holds_of_two 11 1 2 ∷ [])  -- z == x & y: z == x and x == y
-    ∷ rule 31 (Only 0 (pos 0) ∷ Only 1 (pos 0) ∷ [])  -- z == x & y: z is only 0 and x is only 0
-    ∷ rule 31 (Only 0 (pos 0) ∷ Only 2 (pos 0) ∷ [])  -- z == x & y: z is only 0 and y is only 0
-    ∷ rule 31 (holds_of_two 11 0 1 ∷ Only 2 (negsuc 0) ∷ [])  -- z == x & y: z == x and y is only -1
-    ∷ rule 31 (holds_of_two 11 0 2 ∷ Only 1 (negsuc 0) ∷ [])  -- z == x & y: z == y and x is only -1
-    ∷ rule 32 (holds_of_two 11 0 1 ∷ holds_of_two 11 1 2 ∷ [])  -- z == x | y: z == x and x == y
-    ∷ rule 32 (holds_of_two 11 0 1 ∷ Only 2 (pos 0) ∷ [])  -- z == x | y: z == x and y is only 0
-    ∷ rule 32 (holds_of_two 11 0 2 ∷ Only 1 (pos 0) ∷ [])  -- z == x | y: z == y and x is only 0
-    ∷ rule 33 (holds_of_two 11 0 1 ∷ Only 2 (pos 0) ∷ [])  -- z == x ^ y: z == x and y is only 0
-    ∷ rule 33 (holds_of_two 11 0 2 ∷ Only 1 (pos 0) ∷ [])  -- z == x ^ y: z == y and x is only 0
-    ∷ rule 33 (Only 0 (pos 0) ∷ holds_of_two 11 1 2 ∷ [])  -- z == x ^ y: z is only 0 and x == y
-    ∷ rule 34 (Only 0 (pos 1) ∷ Only 1 (pos 1) ∷ [])  -- z == gcd(x, y): z is only 1 and x is only 1
-    ∷ rule 34 (Only 0 (pos 1) ∷ Only 2 (pos 1) ∷ [])  -- z == gcd(x, y): z is only 1 and y is only 1
-    ∷ rule 34 (holds_of_two 11 0 1 ∷ least 2 1 (pos 1) ∷ holds_of_two 16 2 1 ∷ [])  -- z == gcd(x, y): z == x and x >= 1 and y % x == 0
-    ∷ rule 34 (holds_of_two 11 0 2 ∷ least 2 2 (pos 1) ∷ holds_of_two 16 1 2 ∷ [])  -- z == gcd(x, y): z == y and y >= 1 and x % y == 0
-    ∷ rule 38 (least 36 0 (pos 1) ∷ [])  -- s elements != 0: s elements >= 1
-    ∷ rule 38 (greatest 37 0 (negsuc 0) ∷ [])  -- s elements != 0: s elements <= -1
-    ∷ rule 40 (holds_of_one 39 0 ∷ [])  -- s sorted by <=: s sorted by <
-    ∷ rule 40 (holds_of_one 43 0 ∷ [])  -- s sorted by <=: s elements are equal
-    ∷ rule 42 (holds_of_one 41 0 ∷ [])  -- s sorted by >=: s sorted by >
-    ∷ rule 42 (holds_of_one 43 0 ∷ [])  -- s sorted by >=: s elements are equal
-    ∷ rule 54 (holds_of_two 53 0 1 ∷ [])  -- s elements <= x: s elements < x
-    ∷ rule 54 (holds_of_two 52 0 1 ∷ [])  -- s elements <= x: s elements == x
-    ∷ rule 56 (holds_of_two 55 0 1 ∷ [])  -- s elements >= x: s elements > x
-    ∷ rule 56 (holds_of_two 52 0 1 ∷ [])  -- s elements >= x: s elements == x
-    ∷ rule 62 (holds_of_two 61 0 1 ∷ [])  -- s <= t, pair by pair: s < t, pair by pair
-    ∷ rule 62 (holds_of_two 57 0 1 ∷ [])  -- s <= t, pair by pair: s == t
-    ∷ rule 63 (holds_of_two 57 0 1 ∷ [])  -- s is a subset of t (numbers): s == t
-    ∷ rule 63 (holds_of_two 66 0 1 ∷ [])  -- s is a subset of t (numbers): s is the reverse of t
-    ∷ rule 64 (holds_of_two 59 0 1 ∷ [])  -- s is a subset of t (hash codes): s == t
-    ∷ rule 65 (holds_of_two 60 0 1 ∷ [])  -- s is a subset of t (strings): s == t
-    ∷ rule 66 (holds_of_two 57 0 1 ∷ holds_of_one 43 0 ∷ [])  -- s is the reverse of t: s == t and s elements are equal
+    rule non_zero (least lower_bound first (pos 1) ∷ [])  -- x != 0: x >= 1
+    ∷ rule non_zero (greatest upper_bound first (negsuc 0) ∷ [])  -- x != 0: x <= -1
+    ∷ rule ne_int (holds_of_two lt first second ∷ [])  -- x != y: x < y
+    ∷ rule ne_int (holds_of_two lt second first ∷ [])  -- x != y: y < x
+    ∷ rule le (holds_of_two lt first second ∷ [])  -- x <= y: x < y
+    ∷ rule le (holds_of_two eq_int first second ∷ [])  -- x <= y: x == y
+    ∷ rule divides (holds_of_two eq_int first second ∷ holds_of_one non_zero second ∷ [])  -- x % y == 0: x == y and y != 0
+    ∷ rule divides (Only second (pos 1) ∷ [])  -- x % y == 0: y is only 1
+    ∷ rule divides (Only second (negsuc 0) ∷ [])  -- x % y == 0: y is only -1
+    ∷ rule divides (Only first (pos 0) ∷ holds_of_one non_zero second ∷ [])  -- x % y == 0: x is only 0 and y != 0
+    -- x == y * y: x == y and x >= 0 and x <= 1
+    ∷ rule square (holds_of_two eq_int first second ∷ least lower_bound first (pos 0) ∷ greatest upper_bound first (pos 1) ∷ [])
+    ∷ rule sum (holds_of_two eq_int first second ∷ Only third (pos 0) ∷ [])  -- z == x + y: z == x and y is only 0
+    ∷ rule sum (holds_of_two eq_int first third ∷ Only second (pos 0) ∷ [])  -- z == x + y: z == y and x is only 0
+    ∷ rule difference (holds_of_three sum second first third ∷ [])  -- z == x - y: x == z + y
+    ∷ rule product (holds_of_two eq_int first second ∷ Only third (pos 1) ∷ [])  -- z == x * y: z == x and y is only 1
+    ∷ rule product (holds_of_two eq_int first third ∷ Only second (pos 1) ∷ [])  -- z == x * y: z == y and x is only 1
+    ∷ rule product (Only first (pos 0) ∷ Only second (pos 0) ∷ [])  -- z == x * y: z is only 0 and x is only 0
+    ∷ rule product (Only first (pos 0) ∷ Only third (pos 0) ∷ [])  -- z == x * y: z is only 0 and y is only 0
+    ∷ rule minimum (holds_of_two eq_int first second ∷ holds_of_two le second third ∷ [])  -- z == min(x, y): z == x and x <= y
+    ∷ rule minimum (holds_of_two eq_int first third ∷ holds_of_two le third second ∷ [])  -- z == min(x, y): z == y and y <= x
+    ∷ rule maximum (holds_of_two eq_int first second ∷ holds_of_two le third second ∷ [])  -- z == max(x, y): z == x and y <= x
+    ∷ rule maximum (holds_of_two eq_int first third ∷ holds_of_two le second third ∷ [])  -- z == max(x, y): z == y and x <= y
+    ∷ rule quotient (holds_of_two eq_int first second ∷ Only third (pos 1) ∷ [])  -- z == x / y: z == x and y is only 1
+    -- z == x / y: z is only 0 and x is only 0 and y != 0
+    ∷ rule quotient (Only first (pos 0) ∷ Only second (pos 0) ∷ holds_of_one non_zero third ∷ [])
+    -- z == x / y: z is only 1 and x == y and y != 0
+    ∷ rule quotient (Only first (pos 1) ∷ holds_of_two eq_int second third ∷ holds_of_one non_zero third ∷ [])
+    -- z == x / y: z is only 0 and x >= 0 and x < y
+    ∷ rule quotient (Only first (pos 0) ∷ least lower_bound second (pos 0) ∷ holds_of_two lt second third ∷ [])
+    ∷ rule remainder (Only first (pos 0) ∷ holds_of_two divides second third ∷ [])  -- z == x % y: z is only 0 and x % y == 0
+    -- z == x % y: z == x and x >= 0 and x < y
+    ∷ rule remainder (holds_of_two eq_int first second ∷ least lower_bound second (pos 0) ∷ holds_of_two lt second third ∷ [])
+    ∷ rule and (holds_of_two eq_int first second ∷ holds_of_two eq_int second third ∷ [])  -- z == x & y: z == x and x == y
+    ∷ rule and (Only first (pos 0) ∷ Only second (pos 0) ∷ [])  -- z == x & y: z is only 0 and x is only 0
+    ∷ rule and (Only first (pos 0) ∷ Only third (pos 0) ∷ [])  -- z == x & y: z is only 0 and y is only 0
+    ∷ rule and (holds_of_two eq_int first second ∷ Only third (negsuc 0) ∷ [])  -- z == x & y: z == x and y is only -1
+    ∷ rule and (holds_of_two eq_int first third ∷ Only second (negsuc 0) ∷ [])  -- z == x & y: z == y and x is only -1
+    ∷ rule or (holds_of_two eq_int first second ∷ holds_of_two eq_int second third ∷ [])  -- z == x | y: z == x and x == y
+    ∷ rule or (holds_of_two eq_int first second ∷ Only third (pos 0) ∷ [])  -- z == x | y: z == x and y is only 0
+    ∷ rule or (holds_of_two eq_int first third ∷ Only second (pos 0) ∷ [])  -- z == x | y: z == y and x is only 0
+    ∷ rule xor (holds_of_two eq_int first second ∷ Only third (pos 0) ∷ [])  -- z == x ^ y: z == x and y is only 0
+    ∷ rule xor (holds_of_two eq_int first third ∷ Only second (pos 0) ∷ [])  -- z == x ^ y: z == y and x is only 0
+    ∷ rule xor (Only first (pos 0) ∷ holds_of_two eq_int second third ∷ [])  -- z == x ^ y: z is only 0 and x == y
+    ∷ rule gcd (Only first (pos 1) ∷ Only second (pos 1) ∷ [])  -- z == gcd(x, y): z is only 1 and x is only 1
+    ∷ rule gcd (Only first (pos 1) ∷ Only third (pos 1) ∷ [])  -- z == gcd(x, y): z is only 1 and y is only 1
+    -- z == gcd(x, y): z == x and x >= 1 and y % x == 0
+    ∷ rule gcd (holds_of_two eq_int first second ∷ least lower_bound second (pos 1) ∷ holds_of_two divides third second ∷ [])
+    -- z == gcd(x, y): z == y and y >= 1 and x % y == 0
+    ∷ rule gcd (holds_of_two eq_int first third ∷ least lower_bound third (pos 1) ∷ holds_of_two divides second third ∷ [])
+    ∷ rule elt_non_zero (least elt_lower first (pos 1) ∷ [])  -- s elements != 0: s elements >= 1
+    ∷ rule elt_non_zero (greatest elt_upper first (negsuc 0) ∷ [])  -- s elements != 0: s elements <= -1
+    ∷ rule sorted_le (holds_of_one sorted_lt first ∷ [])  -- s sorted by <=: s sorted by <
+    ∷ rule sorted_le (holds_of_one elts_equal first ∷ [])  -- s sorted by <=: s elements are equal
+    ∷ rule sorted_ge (holds_of_one sorted_gt first ∷ [])  -- s sorted by >=: s sorted by >
+    ∷ rule sorted_ge (holds_of_one elts_equal first ∷ [])  -- s sorted by >=: s elements are equal
+    ∷ rule elt_le (holds_of_two elt_lt first second ∷ [])  -- s elements <= x: s elements < x
+    ∷ rule elt_le (holds_of_two elt_eq first second ∷ [])  -- s elements <= x: s elements == x
+    ∷ rule elt_ge (holds_of_two elt_gt first second ∷ [])  -- s elements >= x: s elements > x
+    ∷ rule elt_ge (holds_of_two elt_eq first second ∷ [])  -- s elements >= x: s elements == x
+    ∷ rule pair_le (holds_of_two pair_lt first second ∷ [])  -- s <= t, pair by pair: s < t, pair by pair
+    ∷ rule pair_le (holds_of_two eq_int_seq first second ∷ [])  -- s <= t, pair by pair: s == t
+    ∷ rule subset_int (holds_of_two eq_int_seq first second ∷ [])  -- s is a subset of t (numbers): s == t
+    ∷ rule subset_int (holds_of_two reverse first second ∷ [])  -- s is a subset of t (numbers): s is the reverse of t
+    ∷ rule subset_hash (holds_of_two eq_hash_seq first second ∷ [])  -- s is a subset of t (hash codes): s == t
+    ∷ rule subset_str (holds_of_two eq_str_seq first second ∷ [])  -- s is a subset of t (strings): s == t
+    -- s is the reverse of t: s == t and s elements are equal
+    ∷ rule reverse (holds_of_two eq_int_seq first second ∷ holds_of_one elts_equal first ∷ [])
     ∷ []
 
 -- ---- what the table says of a row
@@ -117,9 +140,9 @@ asks row r = list_any (λ p. (row_of p).0 == row.0) r.1
 unfoldable pub freed : RowId → List RowId
 freed row = dedup (λ (a b : RowId). a.0 == b.0) (map (λ (r : Rule). r.0) (filter (asks row) rules))
 
--- what the rows 0 to 66 free; no premise is about a later row
+-- what each number below that of planes frees; no premise is about planes or a later row
 abbrev pub freed_by_number : List (List RowId)
-freed_by_number = map (λ n. freed (record { 0 = n })) (range_with_len 0 67)
+freed_by_number = map (λ n. freed (record { 0 = n })) (range_with_len 0 linear_ternary)
 
 -- ---- what the rules ask of a row
 -- two premises about one row are content with the same states
@@ -138,6 +161,6 @@ with_premise asked p = if list_any (ask_alike p) asked then asked else asked ++ 
 unfoldable pub asked_of : RowId → List Premise
 asked_of row = fold with_premise [] (filter (λ p. (row_of p).0 == row.0) (flat_map (λ (r : Rule). r.1) rules))
 
--- those about the rows 0 to 66; no premise is about a later row
+-- those about each number below that of planes; no premise is about planes or a later row
 unfoldable pub asked_by_number : List (List Premise)
-asked_by_number = map (λ n. asked_of (record { 0 = n })) (range_with_len 0 67)
+asked_by_number = map (λ n. asked_of (record { 0 = n })) (range_with_len 0 linear_ternary)

@@ -3,6 +3,11 @@ ghost use Rattle.std.specs.Prelude.{◌≡◌, map};
 ghost use Rattle.dk_suppress.specs.Rules.{freed, freed_by_number};
 
 use dk_template::RowId;
+use dk_template::rows::{
+    AND, DIFFERENCE, DIVIDES, ELT_GE, ELT_LE, ELT_NON_ZERO, GCD, LE, MAXIMUM, MINIMUM, NE_INT,
+    NON_ZERO, OR, PAIR_LE, PRODUCT, QUOTIENT, REMAINDER, REVERSE, SORTED_GE, SORTED_LE, SQUARE,
+    SUBSET_HASH, SUBSET_INT, SUBSET_STR, SUM, XOR,
+};
 
 macro_rules! freed {
     ($($row:expr),*) => {
@@ -10,25 +15,29 @@ macro_rules! freed {
     };
 }
 
-// What each row frees, from 0 on; the last premise is row 66.
+// What each row frees, from 0 on; the last row that is a premise is Reverse.
 const FREED: &[&[RowId]] = &[
     freed!(), // 0
-    freed!(16, 24, 26, 29, 30, 31, 32, 33, 34), // 1 OneOfInt
-    freed!(4, 17, 29, 30, 34), // 2 LowerBound
-    freed!(4, 17), // 3 UpperBound
-    freed!(16, 29), // 4 NonZero
+    freed!(
+        DIVIDES, SUM, PRODUCT, QUOTIENT, REMAINDER, AND, OR, XOR, GCD
+    ), // 1 OneOfInt
+    freed!(NON_ZERO, SQUARE, QUOTIENT, REMAINDER, GCD), // 2 LowerBound
+    freed!(NON_ZERO, SQUARE), // 3 UpperBound
+    freed!(DIVIDES, QUOTIENT), // 4 NonZero
     freed!(), // 5
     freed!(), // 6
     freed!(), // 7
     freed!(), // 8
     freed!(), // 9
     freed!(), // 10
-    freed!(14, 16, 17, 24, 26, 27, 28, 29, 30, 31, 32, 33, 34), // 11 EqInt
+    freed!(
+        LE, DIVIDES, SQUARE, SUM, PRODUCT, MINIMUM, MAXIMUM, QUOTIENT, REMAINDER, AND, OR, XOR, GCD
+    ), // 11 EqInt
     freed!(), // 12
-    freed!(12, 14, 29, 30), // 13 Lt
-    freed!(27, 28), // 14 Le
+    freed!(NE_INT, LE, QUOTIENT, REMAINDER), // 13 Lt
+    freed!(MINIMUM, MAXIMUM), // 14 Le
     freed!(), // 15
-    freed!(30, 34), // 16 Divides
+    freed!(REMAINDER, GCD), // 16 Divides
     freed!(), // 17
     freed!(), // 18
     freed!(), // 19
@@ -36,7 +45,7 @@ const FREED: &[&[RowId]] = &[
     freed!(), // 21
     freed!(), // 22
     freed!(), // 23
-    freed!(25), // 24 Sum
+    freed!(DIFFERENCE), // 24 Sum
     freed!(), // 25
     freed!(), // 26
     freed!(), // 27
@@ -48,14 +57,14 @@ const FREED: &[&[RowId]] = &[
     freed!(), // 33
     freed!(), // 34
     freed!(), // 35
-    freed!(38), // 36 EltLower
-    freed!(38), // 37 EltUpper
+    freed!(ELT_NON_ZERO), // 36 EltLower
+    freed!(ELT_NON_ZERO), // 37 EltUpper
     freed!(), // 38
-    freed!(40), // 39 SortedLt
+    freed!(SORTED_LE), // 39 SortedLt
     freed!(), // 40
-    freed!(42), // 41 SortedGt
+    freed!(SORTED_GE), // 41 SortedGt
     freed!(), // 42
-    freed!(40, 42, 66), // 43 EltsEqual
+    freed!(SORTED_LE, SORTED_GE, REVERSE), // 43 EltsEqual
     freed!(), // 44
     freed!(), // 45
     freed!(), // 46
@@ -64,24 +73,24 @@ const FREED: &[&[RowId]] = &[
     freed!(), // 49
     freed!(), // 50
     freed!(), // 51
-    freed!(54, 56), // 52 EltEq
-    freed!(54), // 53 EltLt
+    freed!(ELT_LE, ELT_GE), // 52 EltEq
+    freed!(ELT_LE), // 53 EltLt
     freed!(), // 54
-    freed!(56), // 55 EltGt
+    freed!(ELT_GE), // 55 EltGt
     freed!(), // 56
-    freed!(62, 63, 66), // 57 EqIntSeq
+    freed!(PAIR_LE, SUBSET_INT, REVERSE), // 57 EqIntSeq
     freed!(), // 58
-    freed!(64), // 59 EqHashSeq
-    freed!(65), // 60 EqStrSeq
-    freed!(62), // 61 PairLt
+    freed!(SUBSET_HASH), // 59 EqHashSeq
+    freed!(SUBSET_STR), // 60 EqStrSeq
+    freed!(PAIR_LE), // 61 PairLt
     freed!(), // 62
     freed!(), // 63
     freed!(), // 64
     freed!(), // 65
-    freed!(63), // 66 Reverse
+    freed!(SUBSET_INT), // 66 Reverse
 ];
 
-// What the rows 0 to 66 free.
+// What each number below that of planes frees.
 fn freed_rows() -> &'static [&'static [RowId]]
     ensures { map (λ r. r.now) result.now ≡ freed_by_number }
 {

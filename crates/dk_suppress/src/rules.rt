@@ -4,7 +4,24 @@ ghost use Rattle.dk_suppress.specs.Parts.{rules_of, starts};
 ghost use Rattle.dk_suppress.specs.Rules.{asked_by_number, asked_of, rules};
 ghost use Rattle.dk_suppress.specs.Told.{told};
 
+use dk_template::rows::{
+    AND, DIFFERENCE, DIVIDES, ELT_EQ, ELT_GE, ELT_GT, ELT_LE, ELT_LOWER, ELT_LT, ELT_NON_ZERO,
+    ELT_UPPER, ELTS_EQUAL, EQ_HASH_SEQ, EQ_INT, EQ_INT_SEQ, EQ_STR_SEQ, GCD, LE, LOWER_BOUND, LT,
+    MAXIMUM, MINIMUM, NE_INT, NON_ZERO, OR, PAIR_LE, PAIR_LT, PRODUCT, QUOTIENT, REMAINDER,
+    REVERSE, SORTED_GE, SORTED_GT, SORTED_LE, SORTED_LT, SQUARE, SUBSET_HASH, SUBSET_INT,
+    SUBSET_STR, SUM, UPPER_BOUND, XOR,
+};
 use dk_template::{Premise, RowId};
+
+// The roles of a conclusion.
+const FIRST: u8 = 0;
+
+const SECOND: u8 = 1;
+
+const THIRD: u8 = 2;
+
+// What is written for a role that a row doesn't have.
+const NO_ROLE: u8 = 0;
 
 /// A rule: its conclusion, and its premises over the roles of the conclusion.
 pub struct Rule {
@@ -21,18 +38,18 @@ macro_rules! rule {
     };
 }
 
-// The row holds over the roles; a role that the row doesn't have is written as 0.
+// The row holds over the roles.
 macro_rules! holds {
     ($row:expr, $a:expr) => {
         Premise::Holds {
             row: RowId($row),
-            roles: [$a, 0, 0],
+            roles: [$a, NO_ROLE, NO_ROLE],
         }
     };
     ($row:expr, $a:expr, $b:expr) => {
         Premise::Holds {
             row: RowId($row),
-            roles: [$a, $b, 0],
+            roles: [$a, $b, NO_ROLE],
         }
     };
     ($row:expr, $a:expr, $b:expr, $c:expr) => {
@@ -69,71 +86,140 @@ macro_rules! only {
     };
 }
 
-// The rules, by their conclusions. The roles are x, y, or s and t, or s and x, and in the rows 24 to 34 they are z, x, y.
+// The rules, by their conclusions. The roles are x, y, or s and t, or s and x, and from Sum to Gcd they are z, x, y.
 const RULES: &[Rule] = &[
-    rule!(4, [least!(2, 0, 1)]), // x != 0: x >= 1
-    rule!(4, [greatest!(3, 0, -1)]), // x != 0: x <= -1
-    rule!(12, [holds!(13, 0, 1)]), // x != y: x < y
-    rule!(12, [holds!(13, 1, 0)]), // x != y: y < x
-    rule!(14, [holds!(13, 0, 1)]), // x <= y: x < y
-    rule!(14, [holds!(11, 0, 1)]), // x <= y: x == y
-    rule!(16, [holds!(11, 0, 1), holds!(4, 1)]), // x % y == 0: x == y and y != 0
-    rule!(16, [only!(1, 1)]), // x % y == 0: y is only 1
-    rule!(16, [only!(1, -1)]), // x % y == 0: y is only -1
-    rule!(16, [only!(0, 0), holds!(4, 1)]), // x % y == 0: x is only 0 and y != 0
-    rule!(17, [holds!(11, 0, 1), least!(2, 0, 0), greatest!(3, 0, 1)]), // x == y * y: x == y and x >= 0 and x <= 1
-    rule!(24, [holds!(11, 0, 1), only!(2, 0)]), // z == x + y: z == x and y is only 0
-    rule!(24, [holds!(11, 0, 2), only!(1, 0)]), // z == x + y: z == y and x is only 0
-    rule!(25, [holds!(24, 1, 0, 2)]), // z == x - y: x == z + y
-    rule!(26, [holds!(11, 0, 1), only!(2, 1)]), // z == x * y: z == x and y is only 1
-    rule!(26, [holds!(11, 0, 2), only!(1, 1)]), // z == x * y: z == y and x is only 1
-    rule!(26, [only!(0, 0), only!(1, 0)]), // z == x * y: z is only 0 and x is only 0
-    rule!(26, [only!(0, 0), only!(2, 0)]), // z == x * y: z is only 0 and y is only 0
-    rule!(27, [holds!(11, 0, 1), holds!(14, 1, 2)]), // z == min(x, y): z == x and x <= y
-    rule!(27, [holds!(11, 0, 2), holds!(14, 2, 1)]), // z == min(x, y): z == y and y <= x
-    rule!(28, [holds!(11, 0, 1), holds!(14, 2, 1)]), // z == max(x, y): z == x and y <= x
-    rule!(28, [holds!(11, 0, 2), holds!(14, 1, 2)]), // z == max(x, y): z == y and x <= y
-    rule!(29, [holds!(11, 0, 1), only!(2, 1)]), // z == x / y: z == x and y is only 1
-    rule!(29, [only!(0, 0), only!(1, 0), holds!(4, 2)]), // z == x / y: z is only 0 and x is only 0 and y != 0
-    rule!(29, [only!(0, 1), holds!(11, 1, 2), holds!(4, 2)]), // z == x / y: z is only 1 and x == y and y != 0
-    rule!(29, [only!(0, 0), least!(2, 1, 0), holds!(13, 1, 2)]), // z == x / y: z is only 0 and x >= 0 and x < y
-    rule!(30, [only!(0, 0), holds!(16, 1, 2)]), // z == x % y: z is only 0 and x % y == 0
-    rule!(30, [holds!(11, 0, 1), least!(2, 1, 0), holds!(13, 1, 2)]), // z == x % y: z == x and x >= 0 and x < y
-    rule!(31, [holds!(11, 0, 1), holds!(11, 1, 2)]), // z == x & y: z == x and x == y
-    rule!(31, [only!(0, 0), only!(1, 0)]), // z == x & y: z is only 0 and x is only 0
-    rule!(31, [only!(0, 0), only!(2, 0)]), // z == x & y: z is only 0 and y is only 0
-    rule!(31, [holds!(11, 0, 1), only!(2, -1)]), // z == x & y: z == x and y is only -1
-    rule!(31, [holds!(11, 0, 2), only!(1, -1)]), // z == x & y: z == y and x is only -1
-    rule!(32, [holds!(11, 0, 1), holds!(11, 1, 2)]), // z == x | y: z == x and x == y
-    rule!(32, [holds!(11, 0, 1), only!(2, 0)]), // z == x | y: z == x and y is only 0
-    rule!(32, [holds!(11, 0, 2), only!(1, 0)]), // z == x | y: z == y and x is only 0
-    rule!(33, [holds!(11, 0, 1), only!(2, 0)]), // z == x ^ y: z == x and y is only 0
-    rule!(33, [holds!(11, 0, 2), only!(1, 0)]), // z == x ^ y: z == y and x is only 0
-    rule!(33, [only!(0, 0), holds!(11, 1, 2)]), // z == x ^ y: z is only 0 and x == y
-    rule!(34, [only!(0, 1), only!(1, 1)]), // z == gcd(x, y): z is only 1 and x is only 1
-    rule!(34, [only!(0, 1), only!(2, 1)]), // z == gcd(x, y): z is only 1 and y is only 1
-    rule!(34, [holds!(11, 0, 1), least!(2, 1, 1), holds!(16, 2, 1)]), // z == gcd(x, y): z == x and x >= 1 and y % x == 0
-    rule!(34, [holds!(11, 0, 2), least!(2, 2, 1), holds!(16, 1, 2)]), // z == gcd(x, y): z == y and y >= 1 and x % y == 0
-    rule!(38, [least!(36, 0, 1)]), // s elements != 0: s elements >= 1
-    rule!(38, [greatest!(37, 0, -1)]), // s elements != 0: s elements <= -1
-    rule!(40, [holds!(39, 0)]), // s sorted by <=: s sorted by <
-    rule!(40, [holds!(43, 0)]), // s sorted by <=: s elements are equal
-    rule!(42, [holds!(41, 0)]), // s sorted by >=: s sorted by >
-    rule!(42, [holds!(43, 0)]), // s sorted by >=: s elements are equal
-    rule!(54, [holds!(53, 0, 1)]), // s elements <= x: s elements < x
-    rule!(54, [holds!(52, 0, 1)]), // s elements <= x: s elements == x
-    rule!(56, [holds!(55, 0, 1)]), // s elements >= x: s elements > x
-    rule!(56, [holds!(52, 0, 1)]), // s elements >= x: s elements == x
-    rule!(62, [holds!(61, 0, 1)]), // s <= t, pair by pair: s < t, pair by pair
-    rule!(62, [holds!(57, 0, 1)]), // s <= t, pair by pair: s == t
-    rule!(63, [holds!(57, 0, 1)]), // s is a subset of t (numbers): s == t
-    rule!(63, [holds!(66, 0, 1)]), // s is a subset of t (numbers): s is the reverse of t
-    rule!(64, [holds!(59, 0, 1)]), // s is a subset of t (hash codes): s == t
-    rule!(65, [holds!(60, 0, 1)]), // s is a subset of t (strings): s == t
-    rule!(66, [holds!(57, 0, 1), holds!(43, 0)]), // s is the reverse of t: s == t and s elements are equal
+    rule!(NON_ZERO, [least!(LOWER_BOUND, FIRST, 1)]), // x != 0: x >= 1
+    rule!(NON_ZERO, [greatest!(UPPER_BOUND, FIRST, -1)]), // x != 0: x <= -1
+    rule!(NE_INT, [holds!(LT, FIRST, SECOND)]), // x != y: x < y
+    rule!(NE_INT, [holds!(LT, SECOND, FIRST)]), // x != y: y < x
+    rule!(LE, [holds!(LT, FIRST, SECOND)]), // x <= y: x < y
+    rule!(LE, [holds!(EQ_INT, FIRST, SECOND)]), // x <= y: x == y
+    rule!(
+        DIVIDES,
+        [holds!(EQ_INT, FIRST, SECOND), holds!(NON_ZERO, SECOND)]
+    ), // x % y == 0: x == y and y != 0
+    rule!(DIVIDES, [only!(SECOND, 1)]), // x % y == 0: y is only 1
+    rule!(DIVIDES, [only!(SECOND, -1)]), // x % y == 0: y is only -1
+    rule!(DIVIDES, [only!(FIRST, 0), holds!(NON_ZERO, SECOND)]), // x % y == 0: x is only 0 and y != 0
+    rule!(
+        SQUARE,
+        [
+            holds!(EQ_INT, FIRST, SECOND),
+            least!(LOWER_BOUND, FIRST, 0),
+            greatest!(UPPER_BOUND, FIRST, 1)
+        ]
+    ), // x == y * y: x == y and x >= 0 and x <= 1
+    rule!(SUM, [holds!(EQ_INT, FIRST, SECOND), only!(THIRD, 0)]), // z == x + y: z == x and y is only 0
+    rule!(SUM, [holds!(EQ_INT, FIRST, THIRD), only!(SECOND, 0)]), // z == x + y: z == y and x is only 0
+    rule!(DIFFERENCE, [holds!(SUM, SECOND, FIRST, THIRD)]), // z == x - y: x == z + y
+    rule!(PRODUCT, [holds!(EQ_INT, FIRST, SECOND), only!(THIRD, 1)]), // z == x * y: z == x and y is only 1
+    rule!(PRODUCT, [holds!(EQ_INT, FIRST, THIRD), only!(SECOND, 1)]), // z == x * y: z == y and x is only 1
+    rule!(PRODUCT, [only!(FIRST, 0), only!(SECOND, 0)]), // z == x * y: z is only 0 and x is only 0
+    rule!(PRODUCT, [only!(FIRST, 0), only!(THIRD, 0)]), // z == x * y: z is only 0 and y is only 0
+    rule!(
+        MINIMUM,
+        [holds!(EQ_INT, FIRST, SECOND), holds!(LE, SECOND, THIRD)]
+    ), // z == min(x, y): z == x and x <= y
+    rule!(
+        MINIMUM,
+        [holds!(EQ_INT, FIRST, THIRD), holds!(LE, THIRD, SECOND)]
+    ), // z == min(x, y): z == y and y <= x
+    rule!(
+        MAXIMUM,
+        [holds!(EQ_INT, FIRST, SECOND), holds!(LE, THIRD, SECOND)]
+    ), // z == max(x, y): z == x and y <= x
+    rule!(
+        MAXIMUM,
+        [holds!(EQ_INT, FIRST, THIRD), holds!(LE, SECOND, THIRD)]
+    ), // z == max(x, y): z == y and x <= y
+    rule!(QUOTIENT, [holds!(EQ_INT, FIRST, SECOND), only!(THIRD, 1)]), // z == x / y: z == x and y is only 1
+    rule!(
+        QUOTIENT,
+        [only!(FIRST, 0), only!(SECOND, 0), holds!(NON_ZERO, THIRD)]
+    ), // z == x / y: z is only 0 and x is only 0 and y != 0
+    rule!(
+        QUOTIENT,
+        [
+            only!(FIRST, 1),
+            holds!(EQ_INT, SECOND, THIRD),
+            holds!(NON_ZERO, THIRD)
+        ]
+    ), // z == x / y: z is only 1 and x == y and y != 0
+    rule!(
+        QUOTIENT,
+        [
+            only!(FIRST, 0),
+            least!(LOWER_BOUND, SECOND, 0),
+            holds!(LT, SECOND, THIRD)
+        ]
+    ), // z == x / y: z is only 0 and x >= 0 and x < y
+    rule!(REMAINDER, [only!(FIRST, 0), holds!(DIVIDES, SECOND, THIRD)]), // z == x % y: z is only 0 and x % y == 0
+    rule!(
+        REMAINDER,
+        [
+            holds!(EQ_INT, FIRST, SECOND),
+            least!(LOWER_BOUND, SECOND, 0),
+            holds!(LT, SECOND, THIRD)
+        ]
+    ), // z == x % y: z == x and x >= 0 and x < y
+    rule!(
+        AND,
+        [holds!(EQ_INT, FIRST, SECOND), holds!(EQ_INT, SECOND, THIRD)]
+    ), // z == x & y: z == x and x == y
+    rule!(AND, [only!(FIRST, 0), only!(SECOND, 0)]), // z == x & y: z is only 0 and x is only 0
+    rule!(AND, [only!(FIRST, 0), only!(THIRD, 0)]), // z == x & y: z is only 0 and y is only 0
+    rule!(AND, [holds!(EQ_INT, FIRST, SECOND), only!(THIRD, -1)]), // z == x & y: z == x and y is only -1
+    rule!(AND, [holds!(EQ_INT, FIRST, THIRD), only!(SECOND, -1)]), // z == x & y: z == y and x is only -1
+    rule!(
+        OR,
+        [holds!(EQ_INT, FIRST, SECOND), holds!(EQ_INT, SECOND, THIRD)]
+    ), // z == x | y: z == x and x == y
+    rule!(OR, [holds!(EQ_INT, FIRST, SECOND), only!(THIRD, 0)]), // z == x | y: z == x and y is only 0
+    rule!(OR, [holds!(EQ_INT, FIRST, THIRD), only!(SECOND, 0)]), // z == x | y: z == y and x is only 0
+    rule!(XOR, [holds!(EQ_INT, FIRST, SECOND), only!(THIRD, 0)]), // z == x ^ y: z == x and y is only 0
+    rule!(XOR, [holds!(EQ_INT, FIRST, THIRD), only!(SECOND, 0)]), // z == x ^ y: z == y and x is only 0
+    rule!(XOR, [only!(FIRST, 0), holds!(EQ_INT, SECOND, THIRD)]), // z == x ^ y: z is only 0 and x == y
+    rule!(GCD, [only!(FIRST, 1), only!(SECOND, 1)]), // z == gcd(x, y): z is only 1 and x is only 1
+    rule!(GCD, [only!(FIRST, 1), only!(THIRD, 1)]), // z == gcd(x, y): z is only 1 and y is only 1
+    rule!(
+        GCD,
+        [
+            holds!(EQ_INT, FIRST, SECOND),
+            least!(LOWER_BOUND, SECOND, 1),
+            holds!(DIVIDES, THIRD, SECOND)
+        ]
+    ), // z == gcd(x, y): z == x and x >= 1 and y % x == 0
+    rule!(
+        GCD,
+        [
+            holds!(EQ_INT, FIRST, THIRD),
+            least!(LOWER_BOUND, THIRD, 1),
+            holds!(DIVIDES, SECOND, THIRD)
+        ]
+    ), // z == gcd(x, y): z == y and y >= 1 and x % y == 0
+    rule!(ELT_NON_ZERO, [least!(ELT_LOWER, FIRST, 1)]), // s elements != 0: s elements >= 1
+    rule!(ELT_NON_ZERO, [greatest!(ELT_UPPER, FIRST, -1)]), // s elements != 0: s elements <= -1
+    rule!(SORTED_LE, [holds!(SORTED_LT, FIRST)]), // s sorted by <=: s sorted by <
+    rule!(SORTED_LE, [holds!(ELTS_EQUAL, FIRST)]), // s sorted by <=: s elements are equal
+    rule!(SORTED_GE, [holds!(SORTED_GT, FIRST)]), // s sorted by >=: s sorted by >
+    rule!(SORTED_GE, [holds!(ELTS_EQUAL, FIRST)]), // s sorted by >=: s elements are equal
+    rule!(ELT_LE, [holds!(ELT_LT, FIRST, SECOND)]), // s elements <= x: s elements < x
+    rule!(ELT_LE, [holds!(ELT_EQ, FIRST, SECOND)]), // s elements <= x: s elements == x
+    rule!(ELT_GE, [holds!(ELT_GT, FIRST, SECOND)]), // s elements >= x: s elements > x
+    rule!(ELT_GE, [holds!(ELT_EQ, FIRST, SECOND)]), // s elements >= x: s elements == x
+    rule!(PAIR_LE, [holds!(PAIR_LT, FIRST, SECOND)]), // s <= t, pair by pair: s < t, pair by pair
+    rule!(PAIR_LE, [holds!(EQ_INT_SEQ, FIRST, SECOND)]), // s <= t, pair by pair: s == t
+    rule!(SUBSET_INT, [holds!(EQ_INT_SEQ, FIRST, SECOND)]), // s is a subset of t (numbers): s == t
+    rule!(SUBSET_INT, [holds!(REVERSE, FIRST, SECOND)]), // s is a subset of t (numbers): s is the reverse of t
+    rule!(SUBSET_HASH, [holds!(EQ_HASH_SEQ, FIRST, SECOND)]), // s is a subset of t (hash codes): s == t
+    rule!(SUBSET_STR, [holds!(EQ_STR_SEQ, FIRST, SECOND)]), // s is a subset of t (strings): s == t
+    rule!(
+        REVERSE,
+        [holds!(EQ_INT_SEQ, FIRST, SECOND), holds!(ELTS_EQUAL, FIRST)]
+    ), // s is the reverse of t: s == t and s elements are equal
 ];
 
-/// The rules.
+/// All rules of the table, in its order.
 #[tactic(auto, unfolding(crate::specs::Rules::rules))]
 pub fn rules() -> &'static [Rule]
     ensures { map told result.now ≡ rules }
@@ -160,7 +246,7 @@ const STARTS: &[usize] = &[
     53, 53, 53, 55, 57, 58, 59, 60, // 60 to 67
 ];
 
-// Where the rules of the rows 0 to 66 start in the table, and where those of row 66 end.
+// Where the rules of each number below that of planes start in the table, and where the last ones end.
 fn starts() -> &'static [usize]
     ensures { result.now ≡ starts }
 {
@@ -186,25 +272,28 @@ macro_rules! asked {
     };
 }
 
-// The premises about each row, from 0 on, of those that ask the same the first; the last row that has one is row 66.
+// The premises about each row, from 0 on, of those that ask the same the first; the last row that has one is Reverse.
 const ASKED: &[&[Premise]] = &[
     asked!(), // 0
-    asked!(only!(1, 1), only!(1, -1), only!(0, 0)), // 1 OneOfInt
-    asked!(least!(2, 0, 1), least!(2, 0, 0)), // 2 LowerBound
-    asked!(greatest!(3, 0, -1), greatest!(3, 0, 1)), // 3 UpperBound
-    asked!(holds!(4, 1)), // 4 NonZero
+    asked!(only!(SECOND, 1), only!(SECOND, -1), only!(FIRST, 0)), // 1 OneOfInt
+    asked!(least!(LOWER_BOUND, FIRST, 1), least!(LOWER_BOUND, FIRST, 0)), // 2 LowerBound
+    asked!(
+        greatest!(UPPER_BOUND, FIRST, -1),
+        greatest!(UPPER_BOUND, FIRST, 1)
+    ), // 3 UpperBound
+    asked!(holds!(NON_ZERO, SECOND)), // 4 NonZero
     asked!(), // 5
     asked!(), // 6
     asked!(), // 7
     asked!(), // 8
     asked!(), // 9
     asked!(), // 10
-    asked!(holds!(11, 0, 1)), // 11 EqInt
+    asked!(holds!(EQ_INT, FIRST, SECOND)), // 11 EqInt
     asked!(), // 12
-    asked!(holds!(13, 0, 1)), // 13 Lt
-    asked!(holds!(14, 1, 2)), // 14 Le
+    asked!(holds!(LT, FIRST, SECOND)), // 13 Lt
+    asked!(holds!(LE, SECOND, THIRD)), // 14 Le
     asked!(), // 15
-    asked!(holds!(16, 1, 2)), // 16 Divides
+    asked!(holds!(DIVIDES, SECOND, THIRD)), // 16 Divides
     asked!(), // 17
     asked!(), // 18
     asked!(), // 19
@@ -212,7 +301,7 @@ const ASKED: &[&[Premise]] = &[
     asked!(), // 21
     asked!(), // 22
     asked!(), // 23
-    asked!(holds!(24, 1, 0, 2)), // 24 Sum
+    asked!(holds!(SUM, SECOND, FIRST, THIRD)), // 24 Sum
     asked!(), // 25
     asked!(), // 26
     asked!(), // 27
@@ -224,14 +313,14 @@ const ASKED: &[&[Premise]] = &[
     asked!(), // 33
     asked!(), // 34
     asked!(), // 35
-    asked!(least!(36, 0, 1)), // 36 EltLower
-    asked!(greatest!(37, 0, -1)), // 37 EltUpper
+    asked!(least!(ELT_LOWER, FIRST, 1)), // 36 EltLower
+    asked!(greatest!(ELT_UPPER, FIRST, -1)), // 37 EltUpper
     asked!(), // 38
-    asked!(holds!(39, 0)), // 39 SortedLt
+    asked!(holds!(SORTED_LT, FIRST)), // 39 SortedLt
     asked!(), // 40
-    asked!(holds!(41, 0)), // 41 SortedGt
+    asked!(holds!(SORTED_GT, FIRST)), // 41 SortedGt
     asked!(), // 42
-    asked!(holds!(43, 0)), // 43 EltsEqual
+    asked!(holds!(ELTS_EQUAL, FIRST)), // 43 EltsEqual
     asked!(), // 44
     asked!(), // 45
     asked!(), // 46
@@ -240,24 +329,24 @@ const ASKED: &[&[Premise]] = &[
     asked!(), // 49
     asked!(), // 50
     asked!(), // 51
-    asked!(holds!(52, 0, 1)), // 52 EltEq
-    asked!(holds!(53, 0, 1)), // 53 EltLt
+    asked!(holds!(ELT_EQ, FIRST, SECOND)), // 52 EltEq
+    asked!(holds!(ELT_LT, FIRST, SECOND)), // 53 EltLt
     asked!(), // 54
-    asked!(holds!(55, 0, 1)), // 55 EltGt
+    asked!(holds!(ELT_GT, FIRST, SECOND)), // 55 EltGt
     asked!(), // 56
-    asked!(holds!(57, 0, 1)), // 57 EqIntSeq
+    asked!(holds!(EQ_INT_SEQ, FIRST, SECOND)), // 57 EqIntSeq
     asked!(), // 58
-    asked!(holds!(59, 0, 1)), // 59 EqHashSeq
-    asked!(holds!(60, 0, 1)), // 60 EqStrSeq
-    asked!(holds!(61, 0, 1)), // 61 PairLt
+    asked!(holds!(EQ_HASH_SEQ, FIRST, SECOND)), // 59 EqHashSeq
+    asked!(holds!(EQ_STR_SEQ, FIRST, SECOND)), // 60 EqStrSeq
+    asked!(holds!(PAIR_LT, FIRST, SECOND)), // 61 PairLt
     asked!(), // 62
     asked!(), // 63
     asked!(), // 64
     asked!(), // 65
-    asked!(holds!(66, 0, 1)), // 66 Reverse
+    asked!(holds!(REVERSE, FIRST, SECOND)), // 66 Reverse
 ];
 
-// The premises about the rows 0 to 66.
+// The premises about each number below that of planes.
 fn asked_rows() -> &'static [&'static [Premise]]
     ensures { map (λ r. r.now) result.now ≡ asked_by_number }
 {

@@ -17,7 +17,7 @@ enum Stand {
     Cell,
     /// In a cell without quotes around it.
     InCell,
-    /// Within quotes.
+    /// The byte stands within quotes.
     InQuotes,
     /// Behind a quote that closes a cell, or is the first of two that stand for one.
     BehindQuote,

@@ -14,7 +14,7 @@ pub enum ColumnKind {
     Truth(TruthWords),
     /// Each writes a decimal with so many places, which is taken times 10 to this number.
     Decimal(u32),
-    /// Texts.
+    /// Texts of any kind.
     Text,
 }
 

@@ -152,7 +152,7 @@ pub(crate) struct Gathered {
 }
 
 impl Gathered {
-    /// No rows.
+    /// No row has been gathered yet.
     pub(crate) fn new(alloc: Global) -> Gathered
         ensures { result.text.items ≡ [] }
     {
@@ -326,7 +326,7 @@ fn tell_files<S: Sinks>(
     Ok(())
 }
 
-// The declaration.
+// Puts the declaration of the table's point behind the text.
 #[tactic(auto, unfolding(dk_write::specs::Texts::block_text))]
 fn push_decl(alloc: Global, text: &mut Text, decl: &PointDecl) -> Result<(), NoMemory>
     ensures { OnOk result (text.new ≡ text.old ++ block_text (Declares decl.now)) }

@@ -8,6 +8,7 @@ pub mod Joins
 pub mod Laws
 pub mod Rows
 pub mod Premises
+pub mod Numbers
 -- inner: cited by the clauses of bodies and in proofs alone
 pub mod Ascending
 pub mod ProperTest

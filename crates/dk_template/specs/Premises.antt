@@ -8,6 +8,7 @@ use Rattle.dk_forms.specs.declared.states.State.{State}
 use Rattle.dk_forms.specs.declared.states.State.TheVariants as state
 use Rattle.dk_template.specs.Admitted.{admits}
 use Rattle.dk_template.specs.Fitting.{fits}
+use Rattle.dk_template.specs.Numbers as number
 use Rattle.dk_template.specs.Templates.{IsRowOf, arity_of, form_of, is_plain}
 use Rattle.dk_template.specs.declared.answers.Premise.{Premise}
 use Rattle.dk_template.specs.declared.answers.Premise.TheVariants.{Holds, LeastAtLeast, GreatestAtMost, Only}
@@ -36,7 +37,7 @@ is_only k _ = false
 
 -- the row whose state says that a variable is only one number
 abbrev pub one_of_int : RowId
-one_of_int = record { 0 = 1 }
+one_of_int = record { 0 = number.one_of_int }
 
 -- the row of a premise, and the variables that it asks about
 abbrev pub row_of : Premise → RowId
@@ -79,14 +80,14 @@ roles_read (Only role k) = role ∷ []
 
 -- rows with a relation over strings, of which what is kept can't be asked without memory
 abbrev pub is_laid_out : RowId → Bool
-is_laid_out row = list_any (λ r. row.0 == r) (48 ∷ 51 ∷ 65 ∷ [])
+is_laid_out row = list_any (λ r. row.0 == r) (number.elt_non_null_str ∷ number.member_str ∷ number.subset_str ∷ [])
 
 -- the premise has the row that its form speaks of: one with a relation that can be asked without memory, one of least numbers, or
 -- one of greatest numbers
 abbrev pub is_formed : Premise → Bool
 is_formed (Holds row roles) = is_plain (form_of row) && not (is_laid_out row)
-is_formed (LeastAtLeast row role k) = row.0 == 2 || row.0 == 36
-is_formed (GreatestAtMost row role k) = row.0 == 3 || row.0 == 37
+is_formed (LeastAtLeast row role k) = row.0 == number.lower_bound || row.0 == number.elt_lower
+is_formed (GreatestAtMost row role k) = row.0 == number.upper_bound || row.0 == number.elt_upper
 is_formed (Only role k) = true
 
 -- a premise that can be asked over these variables: its roles are there, and its row admits the variables at them
@@ -104,4 +105,6 @@ AreThere infos vars = All (λ (v : VarId). v.0 < length infos) vars
 -- The rows over strings whose answer may want memory: their states are texts, or their strings may have to be laid out anew. Whether
 -- two sequences of strings are the same is told without.
 abbrev pub MayWantMemory : RowId → Type 0
-MayWantMemory row = IsTrue (list_any (λ r. row.0 == r) (9 ∷ 47 ∷ 48 ∷ 51 ∷ 65 ∷ []))
+MayWantMemory row =
+    IsTrue (list_any (λ r. row.0 == r)
+    (number.one_of_str ∷ number.elt_one_of_str ∷ number.elt_non_null_str ∷ number.member_str ∷ number.subset_str ∷ []))

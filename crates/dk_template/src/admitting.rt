@@ -7,8 +7,8 @@ use crate::RowId;
 use crate::templates::{Role, Symmetry, Takes, template_at};
 use dk_base::{Form, Kind, VarId, VarInfo};
 
-// Whether the variable is there, is of the role's kind, and is a base one where the role takes base ones alone.
-fn suits(role: Role, vars: &[VarInfo], var: VarId) -> bool
+/// Whether the variable is there, is of the role's kind, and is a base one where the role takes base ones alone.
+pub fn suits(role: Role, vars: &[VarInfo], var: VarId) -> bool
     ensures { result ≡ suits role (slice_get vars.now var.0) }
 {
     match vars.get(var.0 as usize) {

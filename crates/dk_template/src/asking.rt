@@ -3,7 +3,7 @@ ghost use Rattle.std.specs.Prelude.{◌≡◌, ◌≤◌, [], ◌∷◌, take};
 ghost use Rattle.dk_template.specs.Premises.{asked_count, at_role, at_roles, row_of, suffices, vars_of};
 ghost use Rattle.dk_template.specs.Templates.{IsRow, arity_of};
 
-use crate::{Premise, RowId, State, fits, info};
+use crate::{Premise, RowId, State, fits, info, rows};
 use dk_base::VarId;
 
 // The variable at a role.
@@ -44,7 +44,7 @@ pub fn asked_row(premise: &Premise) -> RowId
         Premise::Holds { row, .. } => row,
         Premise::LeastAtLeast { row, .. } => row,
         Premise::GreatestAtMost { row, .. } => row,
-        Premise::Only { .. } => RowId(1),
+        Premise::Only { .. } => RowId(rows::ONE_OF_INT),
     }
 }
 

@@ -2,6 +2,8 @@
 ghost use Rattle.std.specs.Prelude.{◌≡◌, ◌↔◌, IsTrue};
 ghost use Rattle.dk_template.specs.Templates.{IsRowOf, rows_in};
 
+use crate::rows;
+
 /// A row of the grammar, by its number from 1.
 #[derive(Clone, Copy, Debug, PartialEq, Eq, PartialOrd, Ord)]
 pub struct RowId(pub u8);
@@ -21,8 +23,8 @@ impl Grammar {
         ensures { result ≡ rows_in self }
     {
         match self {
-            Grammar::One => 66,
-            Grammar::Two => 68,
+            Grammar::One => rows::REVERSE,
+            Grammar::Two => rows::PAIR_OFFSET,
         }
     }
 

@@ -13,10 +13,11 @@ mod joining;
 pub mod laws;
 mod properness;
 mod row;
+pub mod rows;
 mod templates;
 mod tuple;
 
-pub use admitting::{admits, is_written};
+pub use admitting::{admits, is_written, suits};
 pub use answers::{Answers, Premise};
 pub use asking::{asked_row, suffices_for};
 pub use dk_forms::{Few, State};

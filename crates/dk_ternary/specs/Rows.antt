@@ -2,6 +2,7 @@
 use Rattle.std.specs.Prelude.{◌≡◌, ◌≤◌, ◌⊎◌, ℤ, bit_and, bit_or, bit_xor, Bool, IsTrue, refl}
 use Rattle.dk_rows.specs.Laws.{is_row}
 use Rattle.dk_rows.specs.Relations.{is_bitwise, is_difference, is_gcd, is_maximum, is_minimum, is_product, is_quotient, is_remainder, is_sum}
+use Rattle.dk_template.specs.Numbers as number
 use Rattle.dk_template.specs.declared.grammar.RowId.{RowId}
 use Rattle.dk_ternary.specs.declared.operation.Operation.{Operation}
 use Rattle.dk_ternary.specs.declared.operation.Operation.TheVariants.{Sum, Difference, Product, Minimum, Maximum, Quotient, Remainder, And, Or, Xor, Gcd}
@@ -12,17 +13,17 @@ IsTernary r = ((24 ≤ r.0) × (r.0 ≤ 34)) ⊎ (r.0 ≡ 67)
 
 -- ---- the result of an operation
 abbrev pub operation_row : Operation → RowId
-operation_row Sum = record { 0 = 24 }
-operation_row Difference = record { 0 = 25 }
-operation_row Product = record { 0 = 26 }
-operation_row Minimum = record { 0 = 27 }
-operation_row Maximum = record { 0 = 28 }
-operation_row Quotient = record { 0 = 29 }
-operation_row Remainder = record { 0 = 30 }
-operation_row And = record { 0 = 31 }
-operation_row Or = record { 0 = 32 }
-operation_row Xor = record { 0 = 33 }
-operation_row Gcd = record { 0 = 34 }
+operation_row Sum = record { 0 = number.sum }
+operation_row Difference = record { 0 = number.difference }
+operation_row Product = record { 0 = number.product }
+operation_row Minimum = record { 0 = number.minimum }
+operation_row Maximum = record { 0 = number.maximum }
+operation_row Quotient = record { 0 = number.quotient }
+operation_row Remainder = record { 0 = number.remainder }
+operation_row And = record { 0 = number.and }
+operation_row Or = record { 0 = number.or }
+operation_row Xor = record { 0 = number.xor }
+operation_row Gcd = record { 0 = number.gcd }
 
 -- z is the result of the operation on x and y
 abbrev pub is_result : Operation → ℤ → ℤ → ℤ → Bool
@@ -53,7 +54,7 @@ operation_is_row Gcd = refl
 
 -- ---- the plane
 abbrev pub linear_ternary_row : RowId
-linear_ternary_row = record { 0 = 67 }
+linear_ternary_row = record { 0 = number.linear_ternary }
 
 pub linear_ternary_is_row : IsTrue (is_row linear_ternary_row)
 linear_ternary_is_row = refl

@@ -1,5 +1,5 @@
 // The rows that state the result of an operation.
-ghost use Rattle.std.specs.Prelude.{◌≡◌, ◌∷◌, []};
+ghost use Rattle.std.specs.Prelude.{◌≡◌, ◌∷◌, [], IfSome};
 ghost use Rattle.dk_base.specs.Tuples.{int_of, value_at};
 ghost use Rattle.dk_base.specs.Values.{values_of};
 ghost use Rattle.dk_base.specs.declared.kinds.Kind.TheVariants as kind;
@@ -10,7 +10,7 @@ use crate::exact::{is_difference, is_gcd, is_product, is_quotient, is_remainder,
 use crate::rows::join;
 use dk_base::{NoMemory, View, int_at};
 use dk_forms::{plain_point, plain_stays};
-use dk_template::{Row, RowId, State};
+use dk_template::{Row, RowId, State, rows};
 use std::alloc::Global;
 
 /// An operation on two numbers x and y, of which z is the result.
@@ -46,18 +46,38 @@ impl Operation {
         ensures { result ≡ operation_row self }
     {
         RowId(match self {
-            Operation::Sum => 24,
-            Operation::Difference => 25,
-            Operation::Product => 26,
-            Operation::Minimum => 27,
-            Operation::Maximum => 28,
-            Operation::Quotient => 29,
-            Operation::Remainder => 30,
-            Operation::And => 31,
-            Operation::Or => 32,
-            Operation::Xor => 33,
-            Operation::Gcd => 34,
+            Operation::Sum => rows::SUM,
+            Operation::Difference => rows::DIFFERENCE,
+            Operation::Product => rows::PRODUCT,
+            Operation::Minimum => rows::MINIMUM,
+            Operation::Maximum => rows::MAXIMUM,
+            Operation::Quotient => rows::QUOTIENT,
+            Operation::Remainder => rows::REMAINDER,
+            Operation::And => rows::AND,
+            Operation::Or => rows::OR,
+            Operation::Xor => rows::XOR,
+            Operation::Gcd => rows::GCD,
         })
+    }
+
+    /// The operation of which a row states the result, if it states one.
+    pub fn of(row: RowId) -> Option<Operation>
+        ensures { IfSome result (λ operation. operation_row operation ≡ row) }
+    {
+        match row.0 {
+            rows::SUM => Some(Operation::Sum),
+            rows::DIFFERENCE => Some(Operation::Difference),
+            rows::PRODUCT => Some(Operation::Product),
+            rows::MINIMUM => Some(Operation::Minimum),
+            rows::MAXIMUM => Some(Operation::Maximum),
+            rows::QUOTIENT => Some(Operation::Quotient),
+            rows::REMAINDER => Some(Operation::Remainder),
+            rows::AND => Some(Operation::And),
+            rows::OR => Some(Operation::Or),
+            rows::XOR => Some(Operation::Xor),
+            rows::GCD => Some(Operation::Gcd),
+            _ => None,
+        }
     }
 
     /// Whether z is the result of the operation on x and y.

@@ -10,7 +10,7 @@ ghost use Rattle.dk_ternary.specs.Rows.{linear_ternary_row};
 use crate::rows::join;
 use dk_base::{NoMemory, View, int_at};
 use dk_forms::{plane_point, plane_stays};
-use dk_template::{Row, RowId, State};
+use dk_template::{Row, RowId, State, rows};
 use std::alloc::Global;
 
 /// The plane through all points (x, y, z), or the stretch of a line that they lie on. Points with a coordinate beyond 2^30 lie on
@@ -23,7 +23,7 @@ impl LinearTernary {
     pub fn row(self) -> RowId
         ensures { result ≡ linear_ternary_row }
     {
-        RowId(67)
+        RowId(rows::LINEAR_TERNARY)
     }
 }
 

@@ -1,5 +1,5 @@
 -- Records that stand whole at the front of some bytes.
-use Rattle.std.proofs.Common.{◌≡◌, ◌≤◌, ◌<◌, ◌+◌, ◌-◌, ◌++◌, ◌∙◌, ℕ, ℤ, zero, suc, Bool, true, false, ◌||◌, ◌⊎◌, inl, inr, List, [], ◌∷◌, codes, length, take, drop, get_or, Option, Some, None, Result, Ok, IfSome, refl, sym, ap, subst, arith, append_assoc, length-append, if◌then◌else◌}
+use Rattle.std.proofs.Common.{◌≡◌, ◌≤◌, ◌<◌, ◌+◌, ◌-◌, ◌++◌, ◌∙◌, ℕ, ℤ, zero, suc, Bool, true, false, ◌||◌, ◌⊎◌, inl, inr, List, [], ◌∷◌, codes, length, take, drop, get_or, Option, Some, None, Result, Ok, Err, IfOk, IfSome, refl, sym, ap, subst, arith, append_assoc, length-append, if◌then◌else◌}
 use Rattle.std.specs.Prelude.{nat_lt, slice_get}
 use Rattle.std.specs.Str.{bytes_eq}
 use Rattle.std.proofs.Math.Seq.{take-append_seam}
@@ -34,6 +34,13 @@ use Rattle.dk_trace.specs.declared.whole.Whole.{Whole}
 use Rattle.dk_trace.proofs.Joined.{then_values_append, then_values_nil}
 use Rattle.dk_trace.proofs.Left.{constant_next, told_next}
 use Rattle.dk_trace.proofs.Tidy.{tidy_plain}
+
+-- ---- what is read
+
+pub if_read : {A E : Type 0} {P Q : A → Type 0} (r : Result (Option A) E) → ((x : A) → P x → Q x) → IfOk r (λ o. IfSome o P) → IfOk r (λ o. IfSome o Q)
+if_read (Ok (Some x)) f p = f x p
+if_read (Ok None) f p = tt
+if_read (Err e) f p = tt
 
 -- ---- lines behind lines
 

@@ -55,6 +55,12 @@ pub record MarkStands (unmarked : Unmarked) (bytes : List ℕ) (values : List Va
   pub cut : IsCut bytes mark rest
   pub says : (n : ℕ) → with_mark unmarked (record { number = n; bytes = mark }) ≡ Ok values
 
+-- the first line is a mark, and what the text says with it stands behind the values so far
+pub record IsPushed (unmarked : Unmarked) (bytes : List ℕ) (old new : List Value) (rest : List ℕ) : Type 0 where
+  pub front : List Value
+  pub mark : MarkStands unmarked bytes front rest
+  pub added : new ≡ old ++ front
+
 -- The first lines are those of the variable, and what they say stands behind the values so far.
 pub record VariableStands (v : VarDecl) (bytes : List ℕ) (old new : List Value) (rest : List ℕ) : Type 0 where
   pub lines : List (List ℕ)

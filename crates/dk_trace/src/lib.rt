@@ -9,10 +9,12 @@ mod bodies;
 pub mod laws;
 mod marks;
 mod reader;
+mod recent;
 mod sample;
 mod values;
 mod whole;
 
 pub use reader::RecordReader;
+pub use recent::Recent;
 pub use sample::BaseSample;
 pub use whole::{Whole, read_whole};

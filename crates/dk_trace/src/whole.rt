@@ -4,16 +4,15 @@ ghost use Rattle.dk_base.specs.Values.{values_of as shown_by};
 ghost use Rattle.dk_lines.specs.Passing.{HasNoLf};
 ghost use Rattle.dk_points.specs.Bare.{have_bare_names, is_bare_name};
 ghost use Rattle.dk_trace.specs.Answers.{shown_value};
-ghost use Rattle.dk_trace.specs.Whole.{BodyStands, IsCut, IsTidy, MarkStands, NumberStands, StandsWhole, TextStands, ValuesStand, VariableStands};
+ghost use Rattle.dk_trace.specs.Whole.{BodyStands, IsCut, IsPushed, IsTidy, MarkStands, NumberStands, StandsWhole, TextStands, ValuesStand, VariableStands};
 
 use crate::marks::Unmarked;
 use crate::reader::{point_named_by, var_decls_at};
+use crate::recent::Recent;
 use crate::sample::BaseSample;
 use crate::values::{push_constant, push_shown};
 use bumpalo::collections::into_bump_slice;
-use dk_base::{
-    Arena, BlockFault, Kind, NoMemory, PointId, View, parse_integer, same_bytes, short_number,
-};
+use dk_base::{Arena, BlockFault, Kind, NoMemory, View, parse_integer, same_bytes, short_number};
 use dk_decl::VarDecl;
 use dk_points::Points;
 use memchr::memchr;
@@ -128,9 +127,6 @@ fn read_text<'a, 'b>(
 ) -> Result<Option<(Unmarked<'a>, &'b [u8])>, NoMemory>
     ensures { IfOk result (λ read. IfSome read (λ r. TextStands kind bytes.now r.0 r.1.now)) }
 {
-    if let Some(read) = read_number(kind, bytes) {
-        return Ok(Some(read));
-    }
     match cut_line(bytes) {
         None => Ok(None),
         Some((text, rest)) => match Unmarked::read(arena, kind, 0, text) {
@@ -172,7 +168,24 @@ fn read_mark<'a, 'b>(
     }
 }
 
-// The values with that of a variable, if the bytes begin with its three lines; and what follows these.
+// The values with that of a text whose mark is in the first line, if that gives one; and what follows its LF.
+#[inline(always)]
+fn push_marked<'a, 'b>(
+    unmarked: Unmarked<'a>,
+    bytes: &'b [u8],
+    values: &mut Vec<View<'a>, &'a Arena>,
+) -> Result<Option<&'b [u8]>, NoMemory>
+    ensures { IfOk result (λ read. IfSome read (λ rest. IsPushed unmarked.entry bytes.now (shown_by values.old.items) (shown_by values.new.items) rest.now)) }
+{
+    let Some((value, rest)) = read_mark(unmarked, bytes) else {
+        return Ok(None);
+    };
+    push_shown(values, value)?;
+    Ok(Some(rest))
+}
+
+// The values with that of a variable, if the bytes begin with its three lines; and what follows these. Whole numbers, which most values
+// are, have a way of their own, which meets that of others only at the end.
 fn read_variable<'a, 'b>(
     arena: &'a Arena,
     var: &VarDecl,
@@ -185,6 +198,9 @@ fn read_variable<'a, 'b>(
     let Some(text) = behind_line(bytes, var.name.as_slice()) else {
         return Ok(None);
     };
+    if let Some((unmarked, mark)) = read_number(var.kind, text) {
+        return push_marked(unmarked, mark, values);
+    }
     let (unmarked, mark) = match read_text(arena, var.kind, text) {
         Ok(Some(read)) => read,
         Ok(None) => return Ok(None),
@@ -270,11 +286,11 @@ fn read_body<'a, 'b>(
 
 /// The record that stands whole at the front of the bytes, the first line of which has this number, with the empty line behind it. Where
 /// none is given, one may stand there all the same; only its lines tell then. A record is given only where each of its lines is read as it
-/// stands, and its variables have bare names. The point `last` is tried first, as that of the record before.
+/// stands, and its variables have bare names. The points of the records before are tried first.
 pub fn read_whole<'a>(
     alloc: Global,
     points: &Points,
-    last: PointId,
+    recent: Recent,
     arena: &'a Arena,
     line: u64,
     bytes: &[u8],
@@ -284,7 +300,7 @@ pub fn read_whole<'a>(
     let Some((first, rest)) = cut_line(bytes) else {
         return Ok(None);
     };
-    let point = match point_named_by(alloc, points, last, line, first) {
+    let point = match point_named_by(alloc, points, recent.likely(points, first), line, first) {
         Ok(point) => point,
         Err(BlockFault::NoMemory) => return Err(NoMemory),
         Err(BlockFault::Refused { .. }) => return Ok(None),

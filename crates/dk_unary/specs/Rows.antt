@@ -3,6 +3,7 @@ use Rattle.std.specs.Prelude.{◌≤◌, ℤ, IsTrue, refl}
 use Rattle.dk_forms.specs.declared.states.State.{State}
 use Rattle.dk_forms.specs.declared.states.State.TheVariants.{Least, Greatest}
 use Rattle.dk_rows.specs.Laws.{is_row}
+use Rattle.dk_template.specs.Numbers as number
 use Rattle.dk_template.specs.declared.grammar.RowId.{RowId}
 use Rattle.dk_unary.specs.declared.bound.Bound.{Bound}
 use Rattle.dk_unary.specs.declared.bound.Bound.TheVariants as bound
@@ -16,14 +17,14 @@ abbrev pub IsUnary : RowId → Type 0
 IsUnary r = (1 ≤ r.0) × (r.0 ≤ 10)
 
 abbrev pub one_of_row : OneOf → RowId
-one_of_row one_of.Int = record { 0 = 1 }
-one_of_row one_of.Bool = record { 0 = 6 }
-one_of_row one_of.Hash = record { 0 = 7 }
-one_of_row one_of.Str = record { 0 = 9 }
+one_of_row one_of.Int = record { 0 = number.one_of_int }
+one_of_row one_of.Bool = record { 0 = number.one_of_bool }
+one_of_row one_of.Hash = record { 0 = number.one_of_hash }
+one_of_row one_of.Str = record { 0 = number.one_of_str }
 
 abbrev pub bound_row : Bound → RowId
-bound_row bound.Lower = record { 0 = 2 }
-bound_row bound.Upper = record { 0 = 3 }
+bound_row bound.Lower = record { 0 = number.lower_bound }
+bound_row bound.Upper = record { 0 = number.upper_bound }
 
 -- the state of one value
 abbrev pub bound_state : Bound → ℤ → State
@@ -31,12 +32,12 @@ bound_state bound.Lower x = Least x
 bound_state bound.Upper x = Greatest x
 
 abbrev pub non_null_row : NonNull → RowId
-non_null_row non_null.Int = record { 0 = 4 }
-non_null_row non_null.Hash = record { 0 = 8 }
-non_null_row non_null.Str = record { 0 = 10 }
+non_null_row non_null.Int = record { 0 = number.non_zero }
+non_null_row non_null.Hash = record { 0 = number.non_null_hash }
+non_null_row non_null.Str = record { 0 = number.non_null_str }
 
 abbrev pub modulus_row : RowId
-modulus_row = record { 0 = 5 }
+modulus_row = record { 0 = number.modulus }
 
 -- ---- each is a row of the table
 pub one_of_is_row : (r : OneOf) → IsTrue (is_row (one_of_row r))

@@ -8,7 +8,7 @@ ghost use Rattle.dk_unary.specs.Rows.{bound_row, bound_state};
 use crate::rows::join;
 use dk_base::{NoMemory, View, int_at};
 use dk_forms::{greatest_stays, least_stays};
-use dk_template::{Row, RowId, State};
+use dk_template::{Row, RowId, State, rows};
 use std::alloc::Global;
 
 /// A bound of a number: the least or the greatest value.
@@ -24,8 +24,8 @@ impl Bound {
         ensures { result ≡ bound_row self }
     {
         RowId(match self {
-            Bound::Lower => 2,
-            Bound::Upper => 3,
+            Bound::Lower => rows::LOWER_BOUND,
+            Bound::Upper => rows::UPPER_BOUND,
         })
     }
 }

@@ -5,7 +5,7 @@ ghost use Rattle.dk_unary.specs.Rows.{modulus_row};
 use crate::rows::join;
 use dk_base::{NoMemory, View, int_at};
 use dk_forms::{modulus_point, modulus_stays};
-use dk_template::{Row, RowId, State};
+use dk_template::{Row, RowId, State, rows};
 use std::alloc::Global;
 
 /// The remainder that all values of a number leave by a modulus as great as can be.
@@ -17,7 +17,7 @@ impl Modulus {
     pub fn row(self) -> RowId
         ensures { result ≡ modulus_row }
     {
-        RowId(5)
+        RowId(rows::MODULUS)
     }
 }
 

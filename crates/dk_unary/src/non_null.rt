@@ -10,7 +10,7 @@ ghost use Rattle.dk_unary.specs.Rows.{non_null_row};
 use crate::rows::join;
 use dk_base::{NoMemory, View, hash_at, int_at, text_at};
 use dk_forms::{plain_point, plain_stays};
-use dk_template::{Row, RowId, State};
+use dk_template::{Row, RowId, State, rows};
 use std::alloc::Global;
 
 /// That a number or a hash code isn't 0, or a string isn't `null`.
@@ -41,9 +41,9 @@ impl NonNull {
         ensures { result ≡ non_null_row self }
     {
         RowId(match self {
-            NonNull::Int => 4,
-            NonNull::Hash => 8,
-            NonNull::Str => 10,
+            NonNull::Int => rows::NON_ZERO,
+            NonNull::Hash => rows::NON_NULL_HASH,
+            NonNull::Str => rows::NON_NULL_STR,
         })
     }
 

@@ -11,7 +11,7 @@ ghost use Rattle.dk_unary.specs.Rows.{one_of_row};
 use crate::rows::join;
 use dk_base::{NoMemory, View, bool_at, hash_at, int_at, text_at};
 use dk_forms::{code_stays, ints_stays, text_point, text_stays, truth_stays};
-use dk_template::{Few, Row, RowId, State};
+use dk_template::{Few, Row, RowId, State, rows};
 use std::alloc::Global;
 
 /// The values of a variable: at most three numbers or strings, one truth value, or one hash code.
@@ -29,10 +29,10 @@ impl OneOf {
         ensures { result ≡ one_of_row self }
     {
         RowId(match self {
-            OneOf::Int => 1,
-            OneOf::Bool => 6,
-            OneOf::Hash => 7,
-            OneOf::Str => 9,
+            OneOf::Int => rows::ONE_OF_INT,
+            OneOf::Bool => rows::ONE_OF_BOOL,
+            OneOf::Hash => rows::ONE_OF_HASH,
+            OneOf::Str => rows::ONE_OF_STR,
         })
     }
 }

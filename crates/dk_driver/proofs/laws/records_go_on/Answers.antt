@@ -1,4 +1,4 @@
-use Rattle.dk_driver.proofs.Walks.{go_on}
+use Rattle.dk_driver.proofs.Trails.{go_on}
 use Rattle.dk_driver.proofs.laws.records_go_on.Goals as goal
 
 pub returns : goal.returns

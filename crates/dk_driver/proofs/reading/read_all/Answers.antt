@@ -7,8 +7,8 @@ use Rattle.dk_driver.proofs.Running.{named_cause, named_fault, named_on, placed}
 use Rattle.dk_driver.specs.Reads.{FaultSays, HasCause, IsPlaced}
 use Rattle.dk_driver.specs.declared.fault.FilesFault.{FilesFault}
 use Rattle.dk_io.specs.Outside.{Rose}
-use Rattle.dk_driver.specs.AllFiles.{AreReadTo}
-use Rattle.dk_driver.specs.Standing.{StandsFor}
+use Rattle.dk_driver.specs.AllFiles.{TracesAreReadTo}
+use Rattle.dk_driver.specs.Standing.{StandsBehind}
 use Rattle.dk_driver.specs.WholeFile.{ComesToEnd, FileFaultGives}
 use Rattle.dk_driver.proofs.reading.read_all.Goals as goal
 
@@ -40,10 +40,10 @@ loop-place-preserved g c =
       files = search rules;
       later = search rules;
       given = c.in-Ok.ensures.given ∙ c.loop-place.invariant.given;
-      goes = λ room read. named_on c.args.traces.now room (g.I.Inputs.file c.args.inputs.now) _ _ _ (StandsFor g.C.Consumer.stands c.loop-place.feed) (StandsFor g.C.Consumer.stands c.in-Ok.next) c.loop-place.place c.loop-place.lines c.read_file.new.lines c.name_at.result.now
-          named within c.loop-place.invariant.limits there (c.loop-place.invariant.goes room read)
-          (λ h records stands xs holds. subst (λ (b : Bool). ComesToEnd b c.loop-place.place h records (fresh_reading c.loop-place.lines) xs (StandsFor g.C.Consumer.stands c.in-Ok.next) c.read_file.new.lines (g.I.Inputs.rest c.read_file.new.inputs)) c.loop-place.invariant.ignores
-          (e.gives h records stands xs (ap (λ (f : List ℕ → HeldFile). f c.name_at.result.now) files ∙ holds)));
+      goes = λ room read. named_on g.C.Consumer.stands c.args.traces.now room (g.I.Inputs.file c.args.inputs.now) _ _ c.loop-place.feed c.loop-place.place c.loop-place.lines c.name_at.result.now
+          named within c.loop-place.invariant.limits (c.loop-place.invariant.goes room read) _ c.in-Ok.next c.read_file.new.lines there
+          (λ h steps stands xs holds. subst (λ (b : Bool). ComesToEnd b c.loop-place.place h steps (fresh_reading c.loop-place.lines) xs (StandsBehind g.C.Consumer.stands c.in-Ok.next) c.read_file.new.lines (g.I.Inputs.rest c.read_file.new.inputs)) c.loop-place.invariant.ignores
+          (e.gives h steps stands xs (ap (λ (f : List ℕ → HeldFile). f c.name_at.result.now) files ∙ holds)));
     }
 
 pub returns-in-Err-clause-gives : goal.returns-in-Err-clause-gives
@@ -54,10 +54,10 @@ returns-in-Err-clause-gives g c room read =
     c.name_at.ensures ∙ ap (λ (l : List (List ℕ)). file_name_at l c.loop-place.place) c.as_slice-names.ensures in
     let within : c.loop-place.place < length c.args.traces.now.names = omega (arith, ap length c.as_slice-names.ensures) in
     subst (λ (f : FilesFault). FaultSays c.args.traces.now room (g.I.Inputs.file c.args.inputs.now) (g.I.Inputs.rest c.args.inputs.now) f (g.I.Inputs.rest c.read_file.new.inputs)) (sym c.at.ensures)
-    (named_fault c.args.traces.now room (g.I.Inputs.file c.args.inputs.now) _ _ _ (StandsFor g.C.Consumer.stands c.loop-place.feed) c.loop-place.place c.loop-place.lines c.name_at.result.now c.in-Err.fault
-    named within c.loop-place.invariant.limits (λ started. rw files at (e.there (λ e. started (cc (e))))) (λ start. e.unstarted (ap Err start)) (c.loop-place.invariant.goes room read)
-    (λ h records stands xs holds. subst (λ (b : Bool). FileFaultGives b c.loop-place.place h c.loop-place.lines xs c.in-Err.fault (g.I.Inputs.rest c.read_file.new.inputs)) c.loop-place.invariant.ignores
-    (e.gives h records stands xs (ap (λ (f : List ℕ → HeldFile). f c.name_at.result.now) files ∙ holds))))
+    (named_fault g.C.Consumer.stands c.args.traces.now room (g.I.Inputs.file c.args.inputs.now) _ _ c.loop-place.feed c.loop-place.place c.loop-place.lines c.name_at.result.now
+    named within c.loop-place.invariant.limits (c.loop-place.invariant.goes room read) _ c.in-Err.fault (λ started. rw files at (e.there (λ e. started (cc (e))))) (λ start. e.unstarted (ap Err start))
+    (λ h steps stands xs holds. subst (λ (b : Bool). FileFaultGives b c.loop-place.place h steps c.loop-place.lines xs c.in-Err.fault (g.I.Inputs.rest c.read_file.new.inputs)) c.loop-place.invariant.ignores
+    (e.gives h steps stands xs (ap (λ (f : List ℕ → HeldFile). f c.name_at.result.now) files ∙ holds))))
 
 pub returns-in-Err-clause-placed : goal.returns-in-Err-clause-placed
 returns-in-Err-clause-placed g c =
@@ -78,4 +78,4 @@ returns-in-Err-clause-cause g c =
 pub returns-clause-gives : goal.returns-clause-gives
 returns-clause-gives g c room read =
     let all : c.loop-place.place ≡ length c.args.traces.now.names = omega (arith, ap length c.as_slice-names.ensures) in
-    subst (λ (n : ℕ). AreReadTo c.args.traces.now room (g.I.Inputs.file c.args.inputs.now) (g.I.Inputs.rest c.args.inputs.now) (g.I.Inputs.rest c.loop-place.inputs) (StandsFor g.C.Consumer.stands c.loop-place.feed) (room_of c.loop-place.lines) n) all (c.loop-place.invariant.goes room read)
+    subst (λ (n : ℕ). TracesAreReadTo g.C.Consumer.stands c.args.traces.now room (g.I.Inputs.file c.args.inputs.now) (g.I.Inputs.rest c.args.inputs.now) (g.I.Inputs.rest c.loop-place.inputs) c.loop-place.feed (room_of c.loop-place.lines) n) all (c.loop-place.invariant.goes room read)

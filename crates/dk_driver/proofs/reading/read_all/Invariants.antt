@@ -1,8 +1,8 @@
 use Rattle.std.proofs.Common.{◌≡◌, ◌≤◌, ℕ, false}
 use Rattle.dk_events.specs.Standing.{ignores_of, over_of}
 use Rattle.dk_lines.specs.Reading.{room_of}
-use Rattle.dk_driver.specs.AllFiles.{AreReadTo}
-use Rattle.dk_driver.specs.Standing.{StandsFor, points_of}
+use Rattle.dk_driver.specs.AllFiles.{TracesAreReadTo}
+use Rattle.dk_driver.specs.Standing.{points_of}
 use Rattle.dk_driver.specs.Walks.{line_limit}
 use Rattle.dk_driver.proofs.reading.read_all.Given as goal
 
@@ -15,6 +15,6 @@ invariant-loop-place g l = record {
   files : g.I.Inputs.file l.inputs ≡ g.I.Inputs.file l.fn.inputs;
   later : g.I.Inputs.faults l.fn.inputs ≤ g.I.Inputs.faults l.inputs;
   given : g.C.Consumer.given l.feed.consumer ≡ g.C.Consumer.given l.fn.feed.consumer;
-  goes : (room : ℕ) → AreReadTo l.traces room (g.I.Inputs.file l.fn.inputs) (g.I.Inputs.rest l.fn.inputs) (g.I.Inputs.rest l.fn.inputs) (StandsFor g.C.Consumer.stands l.fn.feed) (room_of l.fn.lines) 0
-      → AreReadTo l.traces room (g.I.Inputs.file l.fn.inputs) (g.I.Inputs.rest l.fn.inputs) (g.I.Inputs.rest l.inputs) (StandsFor g.C.Consumer.stands l.feed) (room_of l.lines) l.place;
+  goes : (room : ℕ) → TracesAreReadTo g.C.Consumer.stands l.traces room (g.I.Inputs.file l.fn.inputs) (g.I.Inputs.rest l.fn.inputs) (g.I.Inputs.rest l.fn.inputs) l.fn.feed (room_of l.fn.lines) 0
+      → TracesAreReadTo g.C.Consumer.stands l.traces room (g.I.Inputs.file l.fn.inputs) (g.I.Inputs.rest l.fn.inputs) (g.I.Inputs.rest l.inputs) l.feed (room_of l.lines) l.place;
 }

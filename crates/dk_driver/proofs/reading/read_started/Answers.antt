@@ -5,9 +5,9 @@ use Rattle.dk_blocks.specs.Standing.{left_with_answer}
 use Rattle.dk_events.specs.Standing.{ignores_of, over_of}
 use Rattle.dk_lines.specs.Reading.{left_of}
 use Rattle.dk_driver.proofs.Running.{rose_since}
-use Rattle.dk_driver.proofs.Filing.{faulted_read, faulted_started, file_end, file_fault, file_on, not_begun, same_fault}
+use Rattle.dk_driver.proofs.Filing.{faulted_read, faulted_started, feed_end, feed_fault, feed_on, not_begun, same_fault}
 use Rattle.dk_driver.specs.Consuming.{Record}
-use Rattle.dk_driver.specs.Standing.{StandsFor}
+use Rattle.dk_driver.specs.Standing.{StandsBehind, StandsFor}
 use Rattle.dk_driver.specs.Steps.{NextBlock}
 use Rattle.dk_driver.specs.WholeFile.{FaultGives}
 use Rattle.dk_driver.specs.declared.fault.FileFault.{FileFault}
@@ -23,7 +23,7 @@ steps-init g c = record {
   files = search rules;
   later = search rules;
   given = search rules;
-  goes = λ h records stands. not_begun (ignores_of c.args.feed.events) c.args.place h records c.args.lines.now _ (StandsFor g.C.Consumer.stands c.args.feed) _ c.requires.begins stands;
+  goes = λ h steps stands. not_begun (ignores_of c.args.feed.events) c.args.place h steps c.args.lines.now _ (StandsBehind g.C.Consumer.stands c.args.feed) _ c.requires.begins stands;
 }
 
 pub steps-preserved : goal.steps-preserved
@@ -39,22 +39,22 @@ steps-preserved g c =
       files = search rules;
       later = search rules;
       given = search rules;
-      goes = λ h records stands. file_on g.C.Consumer.stands (ignores_of c.args.feed.events) c.args.place h records c.args.lines.now c.steps.lines c.next.new.lines _ _ _ c.steps.feed c.next.new.self c.steps.invariant.ignores (c.steps.invariant.goes h records stands) answers;
+      goes = λ h steps stands. feed_on g.C.Consumer.stands (ignores_of c.args.feed.events) c.args.place h steps c.args.lines.now c.steps.lines c.next.new.lines _ _ c.steps.feed c.next.new.self c.steps.invariant.ignores _ (c.steps.invariant.goes h steps stands) answers;
     }
 
 pub returns-in-Ok-false-clause-gives : goal.returns-in-Ok-false-clause-gives
-returns-in-Ok-false-clause-gives g c h records stands =
+returns-in-Ok-false-clause-gives g c h steps stands =
     let is : c.next.result ≡ Ok false = search rules in
     let answers = λ (h : History) (records : List Record) (stands : StandsFor g.C.Consumer.stands c.steps.feed h records).
     subst (λ (a : Result Bool Fault). IfSome (left_of c.steps.lines (g.I.Inputs.rest c.steps.inputs)) (λ ys. NextBlock g.C.Consumer.stands c.steps.feed c.args.place h records c.steps.lines ys (left_with_answer c.next.new.self a) c.next.new.lines (left_of c.next.new.lines (g.I.Inputs.rest c.next.new.inputs)))) is (c.next.ensures.gives h records stands) in
     let over : over_of c.next.new.self.events ≡ true = search rules in
-    file_end g.C.Consumer.stands (ignores_of c.args.feed.events) c.args.place h records c.args.lines.now c.steps.lines c.next.new.lines _ _ _ c.steps.feed c.next.new.self c.end_file.result c.steps.invariant.ignores
-    (c.steps.invariant.goes h records stands) answers over c.end_file.ensures.stands
+    feed_end g.C.Consumer.stands (ignores_of c.args.feed.events) c.args.place h steps c.args.lines.now c.steps.lines c.next.new.lines _ _ c.steps.feed c.next.new.self c.steps.invariant.ignores _ c.end_file.result
+    (c.steps.invariant.goes h steps stands) answers over c.end_file.ensures.stands
 
 pub returns-in-Err-clause-gives : goal.returns-in-Err-clause-gives
-returns-in-Err-clause-gives g c h records stands =
-    subst (λ (t : FileFault). IfSome (left_of c.args.lines.now (g.I.Inputs.rest c.args.inputs.now)) (λ xs. FaultGives (ignores_of c.args.feed.events) c.args.place h c.args.lines.now xs t (left_of c.next.new.lines (g.I.Inputs.rest c.next.new.inputs)))) (sym c.from.ensures)
-    (file_fault g.C.Consumer.stands (ignores_of c.args.feed.events) c.args.place h records c.args.lines.now c.steps.lines c.next.new.lines _ _ _ c.steps.feed c.in-Err.fault c.steps.invariant.ignores (c.steps.invariant.goes h records stands) c.in-Err.ensures.gives)
+returns-in-Err-clause-gives g c h steps stands =
+    subst (λ (t : FileFault). IfSome (left_of c.args.lines.now (g.I.Inputs.rest c.args.inputs.now)) (λ xs. FaultGives (ignores_of c.args.feed.events) c.args.place h steps c.args.lines.now xs t (left_of c.next.new.lines (g.I.Inputs.rest c.next.new.inputs)))) (sym c.from.ensures)
+    (feed_fault g.C.Consumer.stands (ignores_of c.args.feed.events) c.args.place h steps c.args.lines.now c.steps.lines _ _ _ c.steps.feed c.in-Err.fault c.steps.invariant.ignores (c.steps.invariant.goes h steps stands) c.in-Err.ensures.gives)
 
 pub returns-in-Err-clause-started : goal.returns-in-Err-clause-started
 returns-in-Err-clause-started g c = λ e. faulted_started c.in-Err.fault c.from.result c.from.ensures (same_fault c.from.result t.Start _ refl e)

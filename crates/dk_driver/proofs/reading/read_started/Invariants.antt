@@ -2,8 +2,8 @@ use Rattle.std.proofs.Common.{◌≡◌, ◌≤◌, ◌-◌, ◌+◌, ◌*◌, L
 use Rattle.dk_blocks.specs.History.{History}
 use Rattle.dk_events.specs.Standing.{ignores_of, over_of}
 use Rattle.dk_lines.specs.Reading.{left_of}
-use Rattle.dk_driver.specs.Consuming.{Record}
-use Rattle.dk_driver.specs.Standing.{StandsFor, points_of}
+use Rattle.dk_driver.specs.Standing.{StandsBehind, points_of}
+use Rattle.dk_driver.specs.Trails.{Step}
 use Rattle.dk_driver.specs.WholeFile.{FileGoesOn}
 use Rattle.dk_driver.proofs.reading.read_started.Given as goal
 
@@ -16,8 +16,8 @@ invariant-steps g l = record {
   files : g.I.Inputs.file l.inputs ≡ g.I.Inputs.file l.fn.inputs;
   later : g.I.Inputs.faults l.fn.inputs ≤ g.I.Inputs.faults l.inputs;
   given : g.C.Consumer.given l.feed.consumer ≡ g.C.Consumer.given l.fn.feed.consumer;
-  goes : (h : History) (records : List Record) → StandsFor g.C.Consumer.stands l.fn.feed h records → IfSome (left_of l.fn.lines (g.I.Inputs.rest l.fn.inputs))
-      (λ xs. FileGoesOn (ignores_of l.fn.feed.events) l.fn.place h records l.fn.lines xs (StandsFor g.C.Consumer.stands l.feed) (over_of l.feed.events) l.lines (left_of l.lines (g.I.Inputs.rest l.inputs)));
+  goes : (h : History) (steps : List Step) → StandsBehind g.C.Consumer.stands l.fn.feed h steps → IfSome (left_of l.fn.lines (g.I.Inputs.rest l.fn.inputs))
+      (λ xs. FileGoesOn (ignores_of l.fn.feed.events) l.fn.place h steps l.fn.lines xs (StandsBehind g.C.Consumer.stands l.feed) (over_of l.feed.events) l.lines (left_of l.lines (g.I.Inputs.rest l.inputs)));
 }
 
 abbrev pub decreases-steps : goal.decreases-steps

@@ -1,6 +1,7 @@
-use Rattle.std.specs.Prelude.{◌&&◌}
-use Rattle.std.proofs.Common.{ap, arith}
-use Rattle.dk_engine.proofs.Running.{in_run, no_and}
+use Rattle.std.specs.Prelude.{◌≡◌, ◌&&◌, true}
+use Rattle.std.proofs.Common.{ap, ◌∙◌}
+use Rattle.dk_engine.proofs.Running.{in_run}
+use Rattle.dk_engine.specs.Narrow.{is_in_run}
 use Rattle.dk_engine.specs.Parts.{slot_in}
 use Rattle.dk_engine.specs.Step.{can_close}
 use Rattle.dk_engine.proofs.runs.run_end.Goals as goal
@@ -8,12 +9,9 @@ use Rattle.dk_engine.proofs.runs.run_end.Goals as goal
 pub returns-then-asked-clause-run : goal.returns-then-asked-clause-run
 returns-then-asked-clause-run c k from to =
     let slots = c.args.slots.now in
-    let row = c.end_of_row-end.ensures in
-    let told = c.open_end.ensures in
-    let most = told.to in
-    in_run c.args.asked (slot_in slots c.args.place).row (slot_in slots k) (row.of_row k from (omega (arith, to, most))) (no_and c.args.asked (can_close (slot_in slots k)) (told.stay_open k from to))
+    ap (λ b. is_in_run b (slot_in slots c.args.place).row (slot_in slots k)) c.if-asked.true ∙ c.open_end.ensures.run k from to
 
 pub returns-else-asked-clause-run : goal.returns-else-asked-clause-run
 returns-else-asked-clause-run c k from to =
     let slots = c.args.slots.now in
-    in_run c.args.asked (slot_in slots c.args.place).row (slot_in slots k) (c.end_of_row-end.ensures.of_row k from to) (ap (λ b. b && can_close (slot_in slots k)) c.if-asked.false)
+    in_run c.args.asked (slot_in slots c.args.place).row (slot_in slots k) (c.end_of_row.ensures.of_row k from to) (ap (λ b. b && can_close (slot_in slots k)) c.if-asked.false)

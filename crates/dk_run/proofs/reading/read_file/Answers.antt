@@ -1,6 +1,6 @@
-use Rattle.std.proofs.Common.{rules, sym, ◌≡◌, refl, []}
-use Rattle.dk_core.specs.Standing.{SessionStandsFor}
+use Rattle.std.proofs.Common.{rules, sym, ◌≡◌, ◌++◌, refl, []}
 use Rattle.dk_io.specs.declared.outside.Stream.TheVariants.{Report}
+use Rattle.dk_run.specs.Starts.{Begins}
 use Rattle.dk_run.specs.WholeFile.{fresh_reading}
 use Rattle.dk_run.proofs.Filing.{told_started}
 use Rattle.dk_run.proofs.Writing.{added_nothing}
@@ -15,10 +15,10 @@ returns-in-Ok-clause-gives g c =
       written = told.written;
       holds = (
         λ e. absurd (c.read_started.ensures.started e),
-        λ h n stands counts xs holds. told_started c.args.command.now n h (SessionStandsFor c.args.session h) c.args.lines.now c.start.new.self c.read_started.new.lines _ xs told.text _ _ c.read_started.result
-            c.read_started.ensures.started started c.in-Ok.ensures.rest holds c.read_started.ensures.emptied (told.holds h n stands counts),
+        λ place file start before h steps behind xs holds. told_started c.args.command.now (Begins c.args.command.now.resume file start) place h steps c.args.lines.now c.start.new.self c.read_started.new.lines _ xs (before ++ told.text) _ _ c.read_started.result
+            c.read_started.ensures.started started c.in-Ok.ensures.rest holds c.read_started.ensures.emptied (told.holds place file start before h steps behind),
       );
     }
 
 pub returns-in-Err-clause-gives : goal.returns-in-Err-clause-gives
-returns-in-Err-clause-gives g c = record { text = []; written = sym (added_nothing _ Report); holds = (λ e. refl, λ h n stands counts xs holds. tt) }
+returns-in-Err-clause-gives g c = record { text = []; written = sym (added_nothing _ Report); holds = (λ e. refl, λ place file start before h steps behind xs holds. tt) }

@@ -51,9 +51,10 @@ loop-index-preserved g c =
         written = written_behind _ _ _ old.text new.text old.written new.written;
         holds = λ told read. subst (λ (l : List ℕ). AreReadTo c.args.command.now (g.I.Inputs.file c.args.inputs.now) (g.I.Inputs.rest c.args.inputs.now) (g.I.Inputs.rest c.read_file.new.inputs) c.in-Ok.next (room_of c.read_file.new.lines) (generated_count c.args.command.now + (c.loop-index.index + 1)) l)
             (append_assoc told old.text new.text)
-            (named_on c.args.command.now (g.I.Inputs.file c.args.inputs.now) _ _ _ c.loop-index.session c.in-Ok.next c.loop-index.index c.loop-index.lines c.read_file.new.lines (told ++ old.text) new.text c.word_at.result.now
-            (c.word_at.ensures ∙ ap (λ (l : List (List ℕ)). file_name_at l c.loop-index.index) c.as_slice-words.ensures) (omega (arith, ap length c.as_slice-words.ensures)) c.loop-index.invariant.limits there (old.holds told read)
-            (λ h n stands counts xs holds. new.holds.1 h n stands counts xs (ap (λ (f : List ℕ → HeldFile). f c.word_at.result.now) files ∙ holds)));
+            (named_on c.args.command.now (g.I.Inputs.file c.args.inputs.now) _ _ c.loop-index.session c.loop-index.index c.loop-index.lines (told ++ old.text) new.text c.word_at.result.now
+            (c.word_at.ensures ∙ ap (λ (l : List (List ℕ)). file_name_at l c.loop-index.index) c.as_slice-words.ensures) (omega (arith, ap length c.as_slice-words.ensures)) c.loop-index.invariant.limits (old.holds told read)
+            _ c.in-Ok.next c.read_file.new.lines there
+            (λ start h steps behind xs holds. new.holds.1 (generated_count c.args.command.now + c.loop-index.index) (g.I.Inputs.file c.args.inputs.now) start (told ++ old.text) h steps behind xs (ap (λ (f : List ℕ → HeldFile). f c.word_at.result.now) files ∙ holds)));
       };
     }
 
@@ -69,11 +70,11 @@ returns-in-Err-clause-gives g c =
       written = written_behind _ _ _ old.text new.text old.written new.written;
       holds = λ told read. subst (λ (t : FilesTrouble). FilesTroubleGives c.args.command.now (g.I.Inputs.file c.args.inputs.now) (g.I.Inputs.rest c.args.inputs.now) (told ++ (old.text ++ new.text)) t (g.I.Inputs.rest c.read_file.new.inputs)) (sym (c.at_place.ensures ∙ place))
           (subst (λ (l : List ℕ). FilesTroubleGives c.args.command.now (g.I.Inputs.file c.args.inputs.now) (g.I.Inputs.rest c.args.inputs.now) l (files_trouble (generated_count c.args.command.now + c.loop-index.index) c.in-Err.trouble) (g.I.Inputs.rest c.read_file.new.inputs)) (append_assoc told old.text new.text)
-          (named_trouble c.args.command.now (g.I.Inputs.file c.args.inputs.now) (g.I.Inputs.rest c.args.inputs.now) _ _ c.loop-index.session c.loop-index.index c.loop-index.lines (told ++ old.text) new.text c.word_at.result.now c.in-Err.trouble
-          (c.word_at.ensures ∙ ap (λ (l : List (List ℕ)). file_name_at l c.loop-index.index) c.as_slice-words.ensures) (omega (arith, ap length c.as_slice-words.ensures)) c.loop-index.invariant.limits
-          (λ started. rw files at (c.in-Err.ensures.there (λ e. started (cc (e)))))
-          (λ start. (new.holds.0 (ap Err start), (c.in-Err.ensures.unstarted (ap Err start)).1)) (old.holds told read)
-          (λ h n stands counts xs holds. new.holds.1 h n stands counts xs (ap (λ (f : List ℕ → HeldFile). f c.word_at.result.now) files ∙ holds))));
+          (named_trouble c.args.command.now (g.I.Inputs.file c.args.inputs.now) (g.I.Inputs.rest c.args.inputs.now) _ c.loop-index.session c.loop-index.index c.loop-index.lines (told ++ old.text) new.text c.word_at.result.now
+          (c.word_at.ensures ∙ ap (λ (l : List (List ℕ)). file_name_at l c.loop-index.index) c.as_slice-words.ensures) (omega (arith, ap length c.as_slice-words.ensures)) c.loop-index.invariant.limits (old.holds told read)
+          _ c.in-Err.trouble (λ started. rw files at (c.in-Err.ensures.there (λ e. started (cc (e)))))
+          (λ start. (new.holds.0 (ap Err start), (c.in-Err.ensures.unstarted (ap Err start)).1))
+          (λ start h steps behind xs holds. new.holds.1 (generated_count c.args.command.now + c.loop-index.index) (g.I.Inputs.file c.args.inputs.now) start (told ++ old.text) h steps behind xs (ap (λ (f : List ℕ → HeldFile). f c.word_at.result.now) files ∙ holds))));
     }
 
 pub returns-in-Err-clause-cause : goal.returns-in-Err-clause-cause

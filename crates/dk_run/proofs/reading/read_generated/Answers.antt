@@ -19,8 +19,8 @@ returns-in-Ok-read_text-clause-gives g c =
     record {
       text = told.text;
       written = told.written;
-      holds = λ file before stands. generated_on c.args.command.now file before c.args.session c.in-Ok-read_text.next c.args.lines.now c.read_text.new.lines c.in-Some.n c.in-Ok.text told.text
-          c.in-Some.is c.in-Ok.ensures c.requires.limits stands c.requires.counts told.holds;
+      holds = λ file before stands. generated_on c.args.command.now file before c.args.session c.args.lines.now c.read_text.new.lines c.in-Some.n c.in-Ok.text told.text
+          c.in-Some.is c.in-Ok.ensures c.requires.limits stands c.requires.counts c.in-Ok-read_text.next (λ start h steps behind. told.holds file start [] h steps behind);
     }
 
 pub returns-in-Err-read_text-clause-gives : goal.returns-in-Err-read_text-clause-gives
@@ -30,6 +30,6 @@ returns-in-Err-read_text-clause-gives g c =
       text = told.text;
       written = told.written;
       holds = λ file before stands. subst (λ (t : FilesTrouble). FilesTroubleGives c.args.command.now file before told.text t before) (sym c.at_place.ensures)
-          (generated_trouble c.args.command.now file before c.args.session c.args.lines.now c.read_text.new.lines c.in-Some.n c.in-Ok.text told.text c.in-Err-read_text.trouble
-          c.in-Some.is c.in-Ok.ensures c.requires.limits stands c.requires.counts c.in-Err-read_text.ensures.steady told.holds);
+          (generated_trouble c.args.command.now file before c.args.session c.args.lines.now c.read_text.new.lines c.in-Some.n c.in-Ok.text told.text
+          c.in-Some.is c.in-Ok.ensures c.requires.limits stands c.requires.counts c.in-Err-read_text.trouble c.in-Err-read_text.ensures.steady (λ start h steps behind. told.holds file start [] h steps behind));
     }

@@ -1,17 +1,21 @@
-use Rattle.std.proofs.Common.{rules, subst, sym, ◌∙◌, ◌≡◌, ◌++◌, [], Bool, true, false, IfSome, Result, Ok, Err, refl, ap}
+use Rattle.std.proofs.Common.{rules, subst, sym, ◌∙◌, ◌≡◌, ◌++◌, ℕ, List, [], Bool, true, false, IfSome, Result, Ok, Err, refl, ap, append_assoc}
+use Rattle.std.proofs.lemmas.List.{append-nil}
 use Rattle.dk_lines.specs.Reading.{left_of}
 use Rattle.dk_blocks.specs.History.{History}
 use Rattle.dk_core.specs.Selecting.{SelectsBy}
-use Rattle.dk_core.specs.Standing.{SessionReadsFor, SessionStandsFor, left_with_answer}
+use Rattle.dk_core.specs.Standing.{SessionReadsFor, left_with_answer, over_of}
 use Rattle.dk_core.specs.Steps.{NextBlock}
 use Rattle.dk_base.specs.declared.faults.Fault.{Fault}
 use Rattle.dk_io.specs.declared.outside.Stream.TheVariants.{Report}
+use Rattle.dk_driver.proofs.Filing.{not_begun}
+use Rattle.dk_driver.specs.WholeFile.{FileGoesOn}
 use Rattle.dk_run.specs.Commands.{is_selected}
-use Rattle.dk_run.specs.WholeFile.{TroubleGives}
+use Rattle.dk_run.specs.Starts.{Begins}
+use Rattle.dk_run.specs.WholeFile.{IsBehind, TroubleGives, trouble_of_halt}
 use Rattle.dk_run.specs.declared.reading.Trouble.{Trouble}
 use Rattle.dk_run.specs.declared.reading.Trouble.TheVariants as t
-use Rattle.dk_run.proofs.Filing.{alike_on, alike_same, counted_end, counted_on, faulted_calm, faulted_read, faulted_started, file_end, file_fault, file_on, file_short, halted_calm, halted_read, halted_started, ignores_by, not_begun, reports_on, same_trouble, short_gives}
-use Rattle.dk_run.proofs.Placing.{rose_since}
+use Rattle.dk_run.proofs.Filing.{alike_on, alike_same, counted_end, counted_on, faulted_calm, faulted_read, faulted_started, halted_calm, halted_read, halted_started, ignores_by, reports_on, same_trouble, session_end, session_fault, session_on, session_short, short_gives}
+use Rattle.dk_driver.proofs.Running.{rose_since}
 use Rattle.dk_run.proofs.Writing.{added_nothing, written_behind}
 use Rattle.dk_run.proofs.reading.read_started.Goals as goal
 
@@ -29,7 +33,8 @@ steps-init g c = record {
   goes = record {
     text = [];
     written = sym (added_nothing _ Report);
-    holds = λ h n stands counts. not_begun c.args.command.now n h c.args.lines.now _ c.args.session c.requires.begins stands counts;
+    holds = λ place file start told h steps behind. not_begun c.args.command.now.ignore_missing_entry place h steps c.args.lines.now _ (IsBehind c.args.command.now (Begins c.args.command.now.resume file start) c.args.session (told ++ [])) _ c.requires.begins
+        (subst (λ (l : List ℕ). IsBehind c.args.command.now (Begins c.args.command.now.resume file start) c.args.session l h steps) (sym (append-nil told)) behind);
   };
 }
 
@@ -51,9 +56,12 @@ steps-preserved g c =
       goes = record {
         text = c.steps.invariant.goes.text ++ c.in-Ok.ensures.text;
         written = written_behind _ _ _ c.steps.invariant.goes.text c.in-Ok.ensures.text c.steps.invariant.goes.written c.in-Ok.ensures.written;
-        holds = λ h n stands counts. file_on c.args.command.now n h (SessionStandsFor c.args.session h) c.args.lines.now c.steps.lines c.block.new.lines _ _ _ c.steps.invariant.goes.text c.in-Ok.ensures.text c.steps.session c.block.new.self
-            (ignores_by c.args.command.now c.steps.session c.steps.invariant.reports) (c.steps.invariant.goes.holds h n stands counts) answers
-            (counted_on c.steps.session c.block.new.self c.steps.lines c.block.new.lines c.block.result is c.block.ensures.counts) c.in-Ok.ensures.holds;
+        holds = λ place file start told h steps behind.
+            subst (λ (l : List ℕ). IfSome (left_of c.args.lines.now (g.I.Inputs.rest c.args.inputs.now)) (λ xs. FileGoesOn c.args.command.now.ignore_missing_entry place h steps c.args.lines.now xs (IsBehind c.args.command.now (Begins c.args.command.now.resume file start) c.block.new.self l) (over_of c.block.new.self) c.block.new.lines (left_of c.block.new.lines (g.I.Inputs.rest c.block.new.inputs))))
+            (append_assoc told c.steps.invariant.goes.text c.in-Ok.ensures.text)
+            (session_on c.args.command.now (Begins c.args.command.now.resume file start) place h steps c.args.lines.now c.steps.lines c.block.new.lines _ _ _ (told ++ c.steps.invariant.goes.text) c.steps.session c.block.new.self
+            (ignores_by c.args.command.now c.steps.session c.steps.invariant.reports) (c.steps.invariant.goes.holds place file start told h steps behind) c.in-Ok.ensures.text answers
+            (counted_on c.steps.session c.block.new.self c.steps.lines c.block.new.lines c.block.result is c.block.ensures.counts) c.in-Ok.ensures.holds);
       };
     }
 
@@ -66,11 +74,13 @@ returns-in-Err-tell_by_the_way-clause-gives g c =
     record {
       text = c.steps.invariant.goes.text ++ cut.text;
       written = written_behind _ _ _ c.steps.invariant.goes.text cut.text c.steps.invariant.goes.written cut.written;
-      holds = λ h n stands counts. subst (λ (t : Trouble). IfSome (left_of c.args.lines.now (g.I.Inputs.rest c.args.inputs.now)) (λ xs. TroubleGives c.args.command.now n h (SessionStandsFor c.args.session h) c.args.lines.now xs (c.steps.invariant.goes.text ++ cut.text) t (left_of c.block.new.lines (g.I.Inputs.rest c.block.new.inputs)))) (sym c.trouble_of_halt.ensures)
-          (short_gives c.args.command.now n h (SessionStandsFor c.args.session h) c.args.lines.now _ _ (c.steps.invariant.goes.text ++ cut.text) c.in-Err-tell_by_the_way.halt
-          (file_short c.args.command.now n h (SessionStandsFor c.args.session h) c.args.lines.now c.steps.lines c.block.new.lines _ _ _ c.steps.invariant.goes.text cut.text c.steps.session c.block.new.self
-          (ignores_by c.args.command.now c.steps.session c.steps.invariant.reports) (c.steps.invariant.goes.holds h n stands counts) answers
-          (counted_on c.steps.session c.block.new.self c.steps.lines c.block.new.lines c.block.result is c.block.ensures.counts) cut.holds));
+      holds = λ place file start told h steps behind.
+          subst (λ (t : Trouble). IfSome (left_of c.args.lines.now (g.I.Inputs.rest c.args.inputs.now)) (λ xs. TroubleGives c.args.command.now (Begins c.args.command.now.resume file start) place h steps c.args.lines.now xs (told ++ (c.steps.invariant.goes.text ++ cut.text)) t (left_of c.block.new.lines (g.I.Inputs.rest c.block.new.inputs)))) (sym c.trouble_of_halt.ensures)
+          (subst (λ (l : List ℕ). IfSome (left_of c.args.lines.now (g.I.Inputs.rest c.args.inputs.now)) (λ xs. TroubleGives c.args.command.now (Begins c.args.command.now.resume file start) place h steps c.args.lines.now xs l (trouble_of_halt c.in-Err-tell_by_the_way.halt) (left_of c.block.new.lines (g.I.Inputs.rest c.block.new.inputs)))) (append_assoc told c.steps.invariant.goes.text cut.text)
+          (short_gives c.args.command.now (Begins c.args.command.now.resume file start) place h steps c.args.lines.now _ _ ((told ++ c.steps.invariant.goes.text) ++ cut.text) c.in-Err-tell_by_the_way.halt
+          (session_short c.args.command.now (Begins c.args.command.now.resume file start) place h steps c.args.lines.now c.steps.lines c.block.new.lines _ _ _ (told ++ c.steps.invariant.goes.text) c.steps.session c.block.new.self
+          (ignores_by c.args.command.now c.steps.session c.steps.invariant.reports) (c.steps.invariant.goes.holds place file start told h steps behind) cut.text answers
+          (counted_on c.steps.session c.block.new.self c.steps.lines c.block.new.lines c.block.result is c.block.ensures.counts) cut.holds)));
     }
 
 pub returns-in-Ok-false-clause-gives : goal.returns-in-Ok-false-clause-gives
@@ -82,8 +92,8 @@ returns-in-Ok-false-clause-gives g c =
     record {
       text = c.steps.invariant.goes.text;
       written = c.steps.invariant.goes.written;
-      holds = λ h n stands counts. file_end c.args.command.now n h (SessionStandsFor c.args.session h) c.args.lines.now c.steps.lines c.block.new.lines _ _ _ c.steps.invariant.goes.text c.steps.session c.block.new.self c.end_file.result
-          (ignores_by c.args.command.now c.steps.session c.steps.invariant.reports) (c.steps.invariant.goes.holds h n stands counts) answers
+      holds = λ place file start told h steps behind. session_end c.args.command.now (Begins c.args.command.now.resume file start) place h steps c.args.lines.now c.steps.lines c.block.new.lines _ _ _ (told ++ c.steps.invariant.goes.text) c.steps.session c.block.new.self
+          (ignores_by c.args.command.now c.steps.session c.steps.invariant.reports) (c.steps.invariant.goes.holds place file start told h steps behind) c.end_file.result answers
           (c.end_file.ensures.counts.0 ∙ ended.0) ended.1 c.end_file.ensures.stands c.end_file.ensures.reads;
     }
 
@@ -92,9 +102,10 @@ returns-in-Err-clause-gives g c =
     record {
       text = c.steps.invariant.goes.text;
       written = c.steps.invariant.goes.written;
-      holds = λ h n stands counts. subst (λ (t : Trouble). IfSome (left_of c.args.lines.now (g.I.Inputs.rest c.args.inputs.now)) (λ xs. TroubleGives c.args.command.now n h (SessionStandsFor c.args.session h) c.args.lines.now xs c.steps.invariant.goes.text t (left_of c.block.new.lines (g.I.Inputs.rest c.block.new.inputs)))) (sym c.trouble_of_fault.ensures)
-          (file_fault c.args.command.now n h (SessionStandsFor c.args.session h) c.args.lines.now c.steps.lines c.block.new.lines _ _ _ c.steps.invariant.goes.text c.steps.session c.in-Err.fault
-          (ignores_by c.args.command.now c.steps.session c.steps.invariant.reports) (c.steps.invariant.goes.holds h n stands counts) c.in-Err.ensures.gives);
+      holds = λ place file start told h steps behind.
+          subst (λ (t : Trouble). IfSome (left_of c.args.lines.now (g.I.Inputs.rest c.args.inputs.now)) (λ xs. TroubleGives c.args.command.now (Begins c.args.command.now.resume file start) place h steps c.args.lines.now xs (told ++ c.steps.invariant.goes.text) t (left_of c.block.new.lines (g.I.Inputs.rest c.block.new.inputs)))) (sym c.trouble_of_fault.ensures)
+          (session_fault c.args.command.now (Begins c.args.command.now.resume file start) place h steps c.args.lines.now c.steps.lines _ _ _ (told ++ c.steps.invariant.goes.text) c.steps.session c.in-Err.fault
+          (ignores_by c.args.command.now c.steps.session c.steps.invariant.reports) (c.steps.invariant.goes.holds place file start told h steps behind) c.in-Err.ensures.gives);
     }
 
 pub returns-in-Err-tell_by_the_way-clause-calm : goal.returns-in-Err-tell_by_the_way-clause-calm

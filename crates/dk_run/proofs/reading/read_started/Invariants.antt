@@ -1,13 +1,12 @@
 use Rattle.std.proofs.Common.{◌≡◌, ◌≤◌, ◌-◌, ◌+◌, ◌*◌, ℕ, not, IfSome, if◌then◌else◌}
 use Rattle.dk_lines.specs.Reading.{left_of}
-use Rattle.dk_blocks.specs.History.{History}
 use Rattle.dk_core.specs.Selecting.{SelectsBy}
-use Rattle.dk_core.specs.Standing.{ReportsAlike, SessionReadsFor, SessionStandsFor, blocks_of, over_of, select_of}
+use Rattle.dk_core.specs.Standing.{ReportsAlike, over_of, select_of}
 use Rattle.dk_io.specs.declared.outside.Stream.TheVariants.{Report}
+use Rattle.dk_driver.specs.WholeFile.{FileGoesOn}
 use Rattle.dk_run.specs.Commands.{is_selected}
-use Rattle.dk_presence.specs.Patterns.{capped}
 use Rattle.dk_run.specs.Telling.{Added, ReportsBy}
-use Rattle.dk_run.specs.WholeFile.{FileGoesOn}
+use Rattle.dk_run.specs.WholeFile.{Behind, IsBehind}
 use Rattle.dk_run.proofs.reading.read_started.Given as goal
 
 abbrev pub invariant-steps : goal.invariant-steps
@@ -21,9 +20,9 @@ invariant-steps g l = record {
   reports : ReportsBy l.command l.session;
   callable : goal.F-IsAlwaysCallable g (select_of l.session);
   selects : SelectsBy (goal.F-post g (select_of l.session)) (is_selected l.command);
-  goes : Added (g.S.Sinks.written l.fn.sinks) (g.S.Sinks.written l.sinks) Report (λ text.
-      (h : History) (n : ℕ) → SessionReadsFor l.fn.session h → blocks_of l.fn.session ≡ capped n → IfSome (left_of l.fn.lines (g.I.Inputs.rest l.fn.inputs))
-      (λ xs. FileGoesOn l.command n h (SessionStandsFor l.fn.session h) l.fn.lines xs text l.session l.lines (left_of l.lines (g.I.Inputs.rest l.inputs))));
+  goes : Added (g.S.Sinks.written l.fn.sinks) (g.S.Sinks.written l.sinks) Report (λ text. (place : ℕ) →
+      Behind l.command l.fn.session text (λ Begun all h steps. IfSome (left_of l.fn.lines (g.I.Inputs.rest l.fn.inputs))
+      (λ xs. FileGoesOn l.command.ignore_missing_entry place h steps l.fn.lines xs (IsBehind l.command Begun l.session all) (over_of l.session) l.lines (left_of l.lines (g.I.Inputs.rest l.inputs)))));
 }
 
 abbrev pub decreases-steps : goal.decreases-steps

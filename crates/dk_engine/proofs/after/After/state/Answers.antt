@@ -1,26 +1,10 @@
-use Rattle.std.specs.Prelude.{◌≡◌}
-use Rattle.std.proofs.Common.{ap, ◌∙◌, rules, sym}
-use Rattle.std.proofs.lemmas.Result.{IfOk-weaker}
+use Rattle.std.proofs.Common.{sym}
 use Rattle.dk_template.proofs.ProperStates.{proper_laws}
 use Rattle.dk_template.specs.Templates.{form_of}
-use Rattle.dk_engine.specs.Feeding.{read_after, with_sample}
-use Rattle.dk_engine.specs.Levels.{OneMore}
-use Rattle.dk_engine.specs.Reading.{state_read}
 use Rattle.dk_engine.proofs.after.After.state.Goals as goal
 
-pub returns-then-branch-clause-state : goal.returns-then-branch-clause-state
-unfolding read_after
-returns-then-branch-clause-state c = sym (c.in_ok-breaks.ensures.breaks c.if-branch.true (state_read c.args.self.now.whole.kept c.args.row c.args.vars.now))
+pub returns-then-breaks-clause-state : goal.returns-then-breaks-clause-state
+returns-then-breaks-clause-state c = sym (c.breaks.ensures c.if-breaks.true)
 
-pub returns-then-branch-clause-proper : goal.returns-then-branch-clause-proper
-returns-then-branch-clause-proper c = (proper_laws (form_of c.args.row)).broken_proper
-
-pub returns-clause-state : goal.returns-clause-state
-unfolding read_after
-returns-clause-state c =
-    let o : OneMore = c.args.self.now in
-    let row = c.args.row in
-    let vars = c.args.vars.now in
-    let before : c.in_ok-before.before ≡ state_read o.whole.kept row vars = search rules in
-    IfOk-weaker c.with_sample.result (λ s. s ≡ with_sample row vars o.sample c.in_ok-before.before) (λ s. s ≡ with_sample row vars o.sample (state_read o.whole.kept row vars))
-    (λ s e. e ∙ ap (with_sample row vars o.sample) before) c.with_sample.ensures.state
+pub returns-then-breaks-clause-proper : goal.returns-then-breaks-clause-proper
+returns-then-breaks-clause-proper c = (proper_laws (form_of c.args.row)).broken_proper

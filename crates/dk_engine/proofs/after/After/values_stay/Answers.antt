@@ -21,8 +21,9 @@ tuple_stays-requires-clause-tuple c whole =
     subst (IsTuple (role_kinds c.args.row)) (sym same) (is_tuple o.whole.infos o.sample is c.args.row c.args.vars.now c.requires.vars (ap is_whole (sym same) ∙ whole))
 
 pub returns : goal.returns
-returns c stays =
+returns c =
     let o : OneMore = c.args.self.now in
     let row = c.args.row in
     let joining : State → List Value → State = λ s t. if is_whole t then joined (form_of row) s (state_of row (t ∷ [])) else s in
-    sym (ap (joining c.args.state.now) c.requires.tuple) ∙ c.tuple_stays.ensures stays
+    let told = ap (joining c.args.state.now) c.requires.tuple in
+    (λ stays. sym told ∙ c.tuple_stays.ensures.0 stays, λ stays. c.tuple_stays.ensures.1 (told ∙ stays))

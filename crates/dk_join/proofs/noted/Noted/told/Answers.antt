@@ -10,12 +10,12 @@ use Rattle.dk_join.specs.Noted.{equal_row}
 use Rattle.dk_join.proofs.Noting.{equal_asked}
 use Rattle.dk_join.proofs.noted.Noted.told.Goals as goal
 
-pub returns-then-row-eq11 : goal.returns-then-row-eq11
-returns-then-row-eq11 c =
+pub returns-then-row-eq-EQ_INT : goal.returns-then-row-eq-EQ_INT
+returns-then-row-eq-EQ_INT c =
     let e = c.args.self.now.engine.now in
     let vars = c.args.vars.now in
     let roles = c.in-Holds.roles in
-    let row : c.in-Holds.row ≡ equal_row = ap (λ n. record { 0 = n }) c.if-row-eq11.true in
+    let row : c.in-Holds.row ≡ equal_row = ap (λ n. record { 0 = n }) c.if-row-eq-EQ_INT.true in
     let is : c.args.premise.now ≡ Holds equal_row roles = c.in-Holds.is ∙ ap (λ (r : RowId). Holds r roles) row in
     let usable = subst (λ (p : Premise). IsUsable e.grammar e.infos p vars) is c.requires in
     IfSome_then c.told_equal.result c.told_equal.ensures (λ b told.
