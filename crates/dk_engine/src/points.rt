@@ -27,9 +27,9 @@ pub fn point(alloc: Global, row: RowId, tuple: &[View<'_>]) -> Result<State, NoM
     } else if n <= rows::GCD || n == rows::LINEAR_TERNARY {
         dk_ternary::point(alloc, row, tuple)
     } else if n <= rows::ELT_NON_NULL_STR || rows::ELT_EQ <= n && n <= rows::ELT_GE {
-        dk_elements::point(alloc, row, tuple)
+        dk_sequence::elements::point(alloc, row, tuple)
     } else {
-        dk_pairs::point(alloc, row, tuple)
+        dk_sequence::pairs::point(alloc, row, tuple)
     }
 }
 
@@ -48,8 +48,8 @@ pub fn stays(row: RowId, state: &State, tuple: &[View<'_>]) -> bool
     } else if n <= rows::GCD || n == rows::LINEAR_TERNARY {
         dk_ternary::stays(row, state, tuple)
     } else if n <= rows::ELT_NON_NULL_STR || rows::ELT_EQ <= n && n <= rows::ELT_GE {
-        dk_elements::stays(row, state, tuple)
+        dk_sequence::elements::stays(row, state, tuple)
     } else {
-        dk_pairs::stays(row, state, tuple)
+        dk_sequence::pairs::stays(row, state, tuple)
     }
 }

@@ -1,9 +1,9 @@
 // The first slot of a run that a sample changes, by the row's number, which is looked at once.
 ghost use Rattle.dk_base.specs.Values.{values_of};
 ghost use Rattle.dk_binary.specs.Rows.{IsBinary};
-ghost use Rattle.dk_elements.specs.Rows.{IsElementRow};
 ghost use Rattle.dk_grammar.specs.Runs.{AreSlots, IsFirstChanged};
-ghost use Rattle.dk_pairs.specs.Rows.{IsPair};
+ghost use Rattle.dk_sequence.specs.Elements.{IsElementRow};
+ghost use Rattle.dk_sequence.specs.Pairs.{IsPairRow};
 ghost use Rattle.dk_template.specs.Templates.{IsRow};
 ghost use Rattle.dk_ternary.specs.Rows.{IsTernary};
 ghost use Rattle.dk_unary.specs.Rows.{IsUnary};
@@ -12,8 +12,7 @@ use crate::Slot;
 use crate::sweep::first_changed_by;
 use dk_base::View;
 use dk_binary::binary_row;
-use dk_elements::element_row;
-use dk_pairs::pair_row;
+use dk_sequence::{element_row, pair_row};
 use dk_template::{RowId, rows, template_at};
 use dk_ternary::ternary_row;
 use dk_unary::unary_row;
@@ -56,7 +55,7 @@ fn element_run<S: Slot>(row: RowId, run: &[S], sample: &[View<'_>]) -> Option<us
 
 // A row of a value and a sequence or of two sequences.
 fn pair_run<S: Slot>(row: RowId, run: &[S], sample: &[View<'_>]) -> Option<usize>
-    requires row { IsPair row }
+    requires row { IsPairRow row }
     requires run { AreSlots S.vars S.state row (values_of sample.now) run.now }
     ensures { IsFirstChanged S.vars S.state row (values_of sample.now) run.now result }
 {

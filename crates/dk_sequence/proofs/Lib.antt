@@ -1,0 +1,2 @@
+mod ElementRows
+mod PairRows

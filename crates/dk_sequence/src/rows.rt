@@ -22,9 +22,9 @@ pub fn point(alloc: Global, row: RowId, tuple: &[View<'_>]) -> Result<State, NoM
 {
     let n = row.0;
     if n <= rows::ELT_NON_NULL_STR || rows::ELT_EQ <= n && n <= rows::ELT_GE {
-        dk_elements::point(alloc, row, tuple)
+        crate::elements::point(alloc, row, tuple)
     } else {
-        dk_pairs::point(alloc, row, tuple)
+        crate::pairs::point(alloc, row, tuple)
     }
 }
 
@@ -48,8 +48,8 @@ pub fn stays(row: RowId, state: &State, tuple: &[View<'_>]) -> bool
 {
     let n = row.0;
     if n <= rows::ELT_NON_NULL_STR || rows::ELT_EQ <= n && n <= rows::ELT_GE {
-        dk_elements::stays(row, state, tuple)
+        crate::elements::stays(row, state, tuple)
     } else {
-        dk_pairs::stays(row, state, tuple)
+        crate::pairs::stays(row, state, tuple)
     }
 }

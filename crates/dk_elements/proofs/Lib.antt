@@ -1,2 +1,0 @@
-mod Takes
-mod Relating

@@ -1,6 +1,0 @@
-use Rattle.std.proofs.Common.{ap, ◌∙◌, not, int_eq, pos}
-use Rattle.dk_elements.proofs.Relating.{none_passes}
-use Rattle.dk_elements.proofs.non_null.are_nonzero.Goals as goal
-
-pub returns : goal.returns
-returns c = ap not c.member.ensures ∙ none_passes (λ x. int_eq x (pos 0)) c.args.numbers.now

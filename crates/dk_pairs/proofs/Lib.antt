@@ -1,4 +1,0 @@
-mod Takes
-mod Relating
-mod Scans
-mod Shifts

@@ -1,6 +1,0 @@
-use Rattle.std.proofs.Common.{◌∙◌}
-use Rattle.dk_pairs.proofs.Scans.{pointwise_pairs}
-use Rattle.dk_pairs.proofs.equality.are_same.Goals as goal
-
-pub returns : goal.returns
-returns g c = c.eq.ensures ∙ pointwise_pairs _ c.args.s.now c.args.t.now

@@ -1,0 +1,4 @@
+pub mod Takes
+pub mod Relating
+pub mod Scans
+pub mod Shifts

@@ -1,0 +1,16 @@
+use Rattle.std.proofs.Common.{sym, ◌∙◌}
+use Rattle.dk_base.specs.Values.{values_of}
+use Rattle.dk_rows.proofs.RowLaws.{plain_row_of_one}
+use Rattle.dk_sequence.proofs.ElementRows.Relating.{sorted_relation}
+use Rattle.dk_sequence.proofs.ElementRows.Takes.{sorted_form, sorted_takes}
+use Rattle.dk_sequence.specs.Elements.{sorted_is_row, sorted_row}
+use Rattle.dk_sequence.proofs.elements.sorted.SortedRow.point.Goals as goal
+
+pub holds-requires : goal.holds-requires
+holds-requires c = sorted_takes c.args.self.now.0 (values_of c.args.tuple.now) c.requires
+
+pub returns-clause-state : goal.returns-clause-state
+returns-clause-state c =
+    let r = c.args.self.now in
+    let t = values_of c.args.tuple.now in
+    c.plain_point.ensures ∙ plain_row_of_one (sorted_row r) (sorted_is_row r) (sorted_form r.0) t (c.holds.ensures ∙ sym (sorted_relation r.0 t))

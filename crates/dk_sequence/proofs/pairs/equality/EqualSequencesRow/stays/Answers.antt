@@ -1,0 +1,20 @@
+use Rattle.std.proofs.Common.{sym, ◌∙◌}
+use Rattle.dk_base.specs.Values.{values_of}
+use Rattle.dk_rows.proofs.RowLaws.{plain_row_of_one}
+use Rattle.dk_sequence.proofs.PairRows.Relating.{equal_relation}
+use Rattle.dk_sequence.proofs.PairRows.Takes.{equal_form, equal_takes}
+use Rattle.dk_sequence.specs.Pairs.{equal_is_row, equal_row}
+use Rattle.dk_template.proofs.Staying.{proper_by, stays_as}
+use Rattle.dk_sequence.proofs.pairs.equality.EqualSequencesRow.stays.Goals as goal
+
+pub holds-requires : goal.holds-requires
+holds-requires c = equal_takes c.args.self.now (values_of c.args.tuple.now) c.requires.tuple
+
+pub plain_stays-requires : goal.plain_stays-requires
+plain_stays-requires c = proper_by (equal_form c.args.self.now) c.args.state.now c.requires.state
+
+pub returns : goal.returns
+returns c =
+    let r = c.args.self.now in
+    let t = values_of c.args.tuple.now in
+    stays_as c.args.state.now (equal_form r) (sym (plain_row_of_one (equal_row r) (equal_is_row r) (equal_form r) t (c.holds.ensures ∙ sym (equal_relation r t)))) c.plain_stays.ensures

@@ -1,0 +1,16 @@
+use Rattle.std.proofs.Common.{sym, ◌∙◌}
+use Rattle.dk_base.specs.Values.{values_of}
+use Rattle.dk_rows.proofs.RowLaws.{plain_row_of_one}
+use Rattle.dk_sequence.proofs.PairRows.Relating.{subset_relation}
+use Rattle.dk_sequence.proofs.PairRows.Takes.{subset_form, subset_takes}
+use Rattle.dk_sequence.specs.Pairs.{subset_is_row, subset_row}
+use Rattle.dk_sequence.proofs.pairs.subsets.SubsetRow.point.Goals as goal
+
+pub holds-requires : goal.holds-requires
+holds-requires c = subset_takes c.args.self.now (values_of c.args.tuple.now) c.requires
+
+pub returns-clause-state : goal.returns-clause-state
+returns-clause-state c =
+    let r = c.args.self.now in
+    let t = values_of c.args.tuple.now in
+    c.plain_point.ensures ∙ plain_row_of_one (subset_row r) (subset_is_row r) (subset_form r) t (c.holds.ensures ∙ sym (subset_relation r t))
