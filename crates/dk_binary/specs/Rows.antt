@@ -12,8 +12,8 @@ use Rattle.dk_binary.specs.declared.compare.Compare.TheVariants.{Equal, Differen
 use Rattle.dk_binary.specs.declared.equality.Equality.{Equality}
 use Rattle.dk_binary.specs.declared.equality.Scalar.{Scalar}
 use Rattle.dk_binary.specs.declared.equality.Scalar.TheVariants.{Bool as BoolScalar, Hash as HashScalar, Str as StrScalar}
-use Rattle.dk_rows.specs.Laws.{is_row}
-use Rattle.dk_rows.specs.Relations.{differ, is_multiple, is_square}
+use Rattle.dk_meanings.specs.Laws.{is_row}
+use Rattle.dk_meanings.specs.Relations.{differ, is_multiple, is_square}
 use Rattle.dk_template.specs.Numbers as number
 use Rattle.dk_template.specs.declared.grammar.RowId.{RowId}
 

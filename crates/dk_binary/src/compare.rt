@@ -4,7 +4,7 @@ ghost use Rattle.dk_base.specs.Tuples.{int_of, value_at};
 ghost use Rattle.dk_base.specs.Values.{values_of};
 ghost use Rattle.dk_base.specs.declared.kinds.Kind.TheVariants as kind;
 ghost use Rattle.dk_binary.specs.Rows.{compare_row, relates};
-ghost use Rattle.dk_rows.specs.Relations.{is_multiple, is_square};
+ghost use Rattle.dk_meanings.specs.Relations.{is_multiple, is_square};
 ghost use Rattle.dk_template.specs.Rows.{IsTuple};
 
 use crate::rows::join;
@@ -84,8 +84,8 @@ fn holds(compare: Compare, tuple: &[View<'_>]) -> bool
 
 impl Row for Compare {
     ghost use Rattle.dk_binary.specs.Rows.{compare_is_row, compare_row};
-    ghost use Rattle.dk_rows.proofs.RowLaws.{laws_by};
-    ghost use Rattle.dk_rows.specs.Meanings.{state_of};
+    ghost use Rattle.dk_meanings.proofs.RowLaws.{laws_by};
+    ghost use Rattle.dk_meanings.specs.Meanings.{state_of};
     ghost use Rattle.dk_template.specs.Templates.{form_of, role_kinds};
 
     ghost kinds = { λ row. role_kinds (compare_row row) };

@@ -2,7 +2,7 @@
 ghost use Rattle.std.specs.Prelude.{◌≡◌, ◌∷◌, [], if◌then◌else◌, not};
 ghost use Rattle.dk_base.specs.Values.{values_of};
 ghost use Rattle.dk_binary.specs.Rows.{equality_row, kind_by, same_by};
-ghost use Rattle.dk_rows.specs.Meanings.{relation_of};
+ghost use Rattle.dk_meanings.specs.Meanings.{relation_of};
 ghost use Rattle.dk_template.specs.Rows.{IsTuple};
 ghost use Rattle.dk_template.specs.Templates.{role_kinds};
 
@@ -75,8 +75,8 @@ impl Equality {
 
 impl Row for Equality {
     ghost use Rattle.dk_binary.specs.Rows.{equality_is_row, equality_row};
-    ghost use Rattle.dk_rows.proofs.RowLaws.{laws_by};
-    ghost use Rattle.dk_rows.specs.Meanings.{state_of};
+    ghost use Rattle.dk_meanings.proofs.RowLaws.{laws_by};
+    ghost use Rattle.dk_meanings.specs.Meanings.{state_of};
     ghost use Rattle.dk_template.specs.Templates.{form_of, role_kinds};
 
     ghost kinds = { λ row. role_kinds (equality_row row) };

@@ -46,8 +46,8 @@ fn one_stays(state: &State, tuple: &[View<'_>]) -> bool
 
 impl Row for Linear {
     ghost use Rattle.dk_binary.specs.Rows.{linear_is_row, linear_row};
-    ghost use Rattle.dk_rows.proofs.RowLaws.{laws_by};
-    ghost use Rattle.dk_rows.specs.Meanings.{state_of};
+    ghost use Rattle.dk_meanings.proofs.RowLaws.{laws_by};
+    ghost use Rattle.dk_meanings.specs.Meanings.{state_of};
     ghost use Rattle.dk_template.specs.Templates.{form_of, role_kinds};
 
     ghost kinds = { λ row. role_kinds linear_row };

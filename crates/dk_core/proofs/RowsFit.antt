@@ -8,8 +8,8 @@ use Rattle.dk_base.specs.declared.kinds.Kind.{Kind}
 use Rattle.dk_base.specs.declared.values.Value.{Value}
 use Rattle.dk_base.specs.declared.values.Value.TheVariants as value
 use Rattle.dk_base.specs.declared.kinds.Kind.TheVariants as kind
-use Rattle.dk_rows.specs.Meaning.{Meaning, form_by, relation}
-use Rattle.dk_rows.specs.Meanings.{elements, itself, meaning_of, meanings, of_one}
+use Rattle.dk_meanings.specs.Meaning.{Meaning, form_by, relation}
+use Rattle.dk_meanings.specs.Meanings.{elements, itself, meaning_of, meanings, of_one}
 use Rattle.dk_template.specs.Rows.{IsTuple}
 use Rattle.dk_template.specs.Templates.{form_of, row, rows}
 use Rattle.dk_template.specs.declared.grammar.RowId.{RowId}

@@ -28,7 +28,7 @@ use Rattle.dk_forms.specs.Texts.{IsTextsState}
 use Rattle.dk_forms.specs.Truth.{IsTruthState}
 use Rattle.dk_forms.specs.declared.states.State.{State}
 use Rattle.dk_forms.specs.declared.states.State.TheVariants as state
-use Rattle.dk_rows.specs.Meaning.{Meaning, relation, least, greatest, ints as ints_meant, truth, code, texts, modulus, line, plane, offset, form_by, state_by}
+use Rattle.dk_meanings.specs.Meaning.{Meaning, relation, least, greatest, ints as ints_meant, truth, code, texts, modulus, line, plane, offset, form_by, state_by}
 use Rattle.dk_template.specs.Proper.{AreStrings, IsDifference, IsProper}
 use Rattle.dk_template.specs.Rows.{IsTuple}
 use Rattle.dk_state.specs.Fitting.{FitsState}

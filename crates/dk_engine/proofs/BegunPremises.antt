@@ -20,8 +20,8 @@ use Rattle.dk_forms.specs.Least.{least_of, least_join, least_known, least_state}
 use Rattle.dk_forms.specs.Plain.{plain_join}
 use Rattle.dk_forms.specs.declared.states.State.{State}
 use Rattle.dk_forms.specs.declared.states.State.TheVariants as state
-use Rattle.dk_rows.proofs.RowLaws.{laws_of, plain_rows}
-use Rattle.dk_rows.specs.Meanings.{elements, itself, meanings, of_one, relation_of, state_of}
+use Rattle.dk_meanings.proofs.RowLaws.{laws_of, plain_rows}
+use Rattle.dk_meanings.specs.Meanings.{elements, itself, meanings, of_one, relation_of, state_of}
 use Rattle.dk_suppress.proofs.Saying.{Says, plain_form, premise_says}
 use Rattle.dk_template.specs.Fitting.{fits}
 use Rattle.dk_template.specs.Joins.{joined}

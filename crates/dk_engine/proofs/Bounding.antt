@@ -14,9 +14,9 @@ use Rattle.dk_forms.specs.Greatest.{greatest_join, greatest_of}
 use Rattle.dk_forms.specs.Least.{least_join, least_of}
 use Rattle.dk_forms.specs.declared.states.State.{State}
 use Rattle.dk_forms.specs.declared.states.State.TheVariants.{Greatest, Holds, Least}
-use Rattle.dk_rows.proofs.RowLaws.{plain_row_of_one}
-use Rattle.dk_rows.specs.Laws.{is_row}
-use Rattle.dk_rows.specs.Meanings.{meanings, relation_of, state_of}
+use Rattle.dk_meanings.proofs.RowLaws.{plain_row_of_one}
+use Rattle.dk_meanings.specs.Laws.{is_row}
+use Rattle.dk_meanings.specs.Meanings.{meanings, relation_of, state_of}
 use Rattle.dk_samples.specs.Samples.{is_present, value_in}
 use Rattle.dk_template.specs.Joins.{joined}
 use Rattle.dk_template.specs.Templates.{form_of, rows}

@@ -11,8 +11,8 @@ use Rattle.dk_forms.specs.Known.{Known, both, broken, fact, nothing}
 use Rattle.dk_forms.specs.Plain.{plain_known, plain_state}
 use Rattle.dk_forms.specs.declared.states.State.{State}
 use Rattle.dk_forms.specs.declared.states.State.TheVariants.{Broken, Holds}
-use Rattle.dk_rows.proofs.RowLaws.{plain_row_of_one}
-use Rattle.dk_rows.specs.Meanings.{meanings, relation_of, state_of}
+use Rattle.dk_meanings.proofs.RowLaws.{plain_row_of_one}
+use Rattle.dk_meanings.specs.Meanings.{meanings, relation_of, state_of}
 use Rattle.dk_samples.specs.Samples.{value_in}
 use Rattle.dk_template.specs.Joins.{joined}
 use Rattle.dk_template.specs.Proper.{IsProper}

@@ -8,7 +8,7 @@ use Rattle.dk_fits.specs.Fits.{fit}
 use Rattle.dk_forms.specs.Distinct.{put}
 use Rattle.dk_forms.specs.declared.states.State.{State}
 use Rattle.dk_forms.specs.declared.states.State.TheVariants.{Empty, Broken, Holds}
-use Rattle.dk_rows.specs.Meanings.{meanings, state_of}
+use Rattle.dk_meanings.specs.Meanings.{meanings, state_of}
 use Rattle.dk_suppress.specs.Rules.{Rule, asks, is_suppressed, holds_of_one, holds_of_two, rules}
 use Rattle.dk_suppress.specs.Soundness.{fit_of}
 use Rattle.dk_template.specs.Templates.{rows}

@@ -14,7 +14,7 @@ use Rattle.dk_fits.specs.Fits.{is_whole, tuple_in}
 use Rattle.dk_forms.specs.declared.states.State.{State}
 use Rattle.dk_forms.specs.Line.{line_join, line_of}
 use Rattle.dk_forms.specs.declared.states.State.TheVariants.{Greatest, Holds, Least}
-use Rattle.dk_rows.specs.Meanings.{meanings, state_of}
+use Rattle.dk_meanings.specs.Meanings.{meanings, state_of}
 use Rattle.dk_template.specs.Templates.{form_of, rows}
 use Rattle.dk_template.specs.declared.templates.StateForm.TheVariants as form
 use Rattle.dk_samples.specs.Samples.{is_present, value_in}

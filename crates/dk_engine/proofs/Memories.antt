@@ -17,9 +17,9 @@ use Rattle.dk_fits.proofs.Alike.{pairwise_tells}
 use Rattle.dk_forms.specs.Laws.{IsIn}
 use Rattle.dk_forms.specs.Plain.{plain_of}
 use Rattle.dk_forms.specs.declared.states.State.TheVariants as state
-use Rattle.dk_rows.proofs.RowLaws.{plain_rows}
-use Rattle.dk_rows.specs.Meanings.{meanings, relation_of, state_of}
-use Rattle.dk_rows.specs.Relations.{are_pairwise}
+use Rattle.dk_meanings.proofs.RowLaws.{plain_rows}
+use Rattle.dk_meanings.specs.Meanings.{meanings, relation_of, state_of}
+use Rattle.dk_meanings.specs.Relations.{are_pairwise}
 use Rattle.dk_template.specs.Admitted.{same_kind}
 use Rattle.dk_template.specs.Rows.{IsTuple}
 use Rattle.dk_template.specs.Templates.{IsRow, form_of, role_kinds, rows}

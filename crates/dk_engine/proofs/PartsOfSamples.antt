@@ -22,8 +22,8 @@ use Rattle.dk_fits.specs.Fits.{fit, tuples_of}
 use Rattle.dk_fits.specs.Laws.{satisfies}
 use Rattle.dk_forms.specs.declared.states.State.TheVariants as state
 use Rattle.dk_presence.specs.Patterns.{capped, count_of, counted_by, has, present_in}
-use Rattle.dk_rows.proofs.RowLaws.{laws_of}
-use Rattle.dk_rows.specs.Meanings.{state_of}
+use Rattle.dk_meanings.proofs.RowLaws.{laws_of}
+use Rattle.dk_meanings.specs.Meanings.{state_of}
 use Rattle.dk_samples.specs.Samples.{is_present, value_in}
 use Rattle.dk_suppress.proofs.Asking.{suppressed_alike}
 use Rattle.dk_suppress.specs.Rules.{is_suppressed}

@@ -19,7 +19,7 @@ use Rattle.dk_forms.specs.Line.{in_limit, is_on}
 use Rattle.dk_forms.specs.Plane.{in_space, is_in_plane}
 use Rattle.dk_forms.specs.declared.states.State.{State}
 use Rattle.dk_forms.specs.declared.states.State.TheVariants.{Plane, Straight}
-use Rattle.dk_rows.specs.Meanings.{state_of}
+use Rattle.dk_meanings.specs.Meanings.{state_of}
 use Rattle.dk_samples.specs.Samples.{is_present, value_in}
 use Rattle.dk_template.specs.Joins.{joined}
 use Rattle.dk_template.specs.Templates.{form_of}

@@ -17,8 +17,8 @@ use Rattle.dk_forms.specs.Laws.{IsIn}
 use Rattle.dk_forms.specs.Plain.{IsPlainState, plain_of}
 use Rattle.dk_forms.specs.declared.states.State.{State}
 use Rattle.dk_forms.specs.declared.states.State.TheVariants as state
-use Rattle.dk_rows.proofs.RowLaws.{plain_rows}
-use Rattle.dk_rows.specs.Meanings.{relation_of}
+use Rattle.dk_meanings.proofs.RowLaws.{plain_rows}
+use Rattle.dk_meanings.specs.Meanings.{relation_of}
 use Rattle.dk_suppress.proofs.Facts.{premises_below}
 use Rattle.dk_suppress.proofs.Saying.{plain_form}
 use Rattle.dk_suppress.proofs.Usable.{premises_usable}

@@ -15,8 +15,8 @@ use Rattle.dk_forms.proofs.Summaries.{IsIn-append_left}
 use Rattle.dk_forms.specs.Laws.{IsIn}
 use Rattle.dk_forms.specs.declared.states.State.{State}
 use Rattle.dk_forms.specs.declared.states.State.TheVariants.{Broken, Empty, Holds}
-use Rattle.dk_rows.proofs.RowLaws.{laws_of, plain_rows}
-use Rattle.dk_rows.specs.Meanings.{relation_of, state_of}
+use Rattle.dk_meanings.proofs.RowLaws.{laws_of, plain_rows}
+use Rattle.dk_meanings.specs.Meanings.{relation_of, state_of}
 use Rattle.dk_samples.specs.Samples.{is_present, value_in}
 use Rattle.dk_template.specs.Joins.{joined}
 use Rattle.dk_template.specs.Templates.{IsRow, form_of}

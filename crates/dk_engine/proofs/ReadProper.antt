@@ -9,8 +9,8 @@ use Rattle.dk_fits.specs.Fits.{is_whole, tuple_in}
 use Rattle.dk_fits.specs.Laws.{IsSample}
 use Rattle.dk_forms.specs.declared.states.State.{State}
 use Rattle.dk_forms.specs.declared.states.State.TheVariants as state
-use Rattle.dk_rows.proofs.RowLaws.{laws_of}
-use Rattle.dk_rows.specs.Meanings.{state_of}
+use Rattle.dk_meanings.proofs.RowLaws.{laws_of}
+use Rattle.dk_meanings.specs.Meanings.{state_of}
 use Rattle.dk_template.proofs.Exchanges.{proper_disarranged}
 use Rattle.dk_template.proofs.ProperStates.{proper_laws}
 use Rattle.dk_template.proofs.WrittenOrder.{written_tuples_are_admitted}

@@ -11,7 +11,7 @@ use Prim.Native.Nat.{◌∣◌}
 use Rattle.dk_arith.proofs.GcdLaws.{gcd-left}
 use Rattle.dk_arith.specs.Gcd.{gcd}
 use Rattle.dk_base.specs.declared.kinds.VarId.{VarId}
-use Rattle.dk_rows.specs.Relations.{is_gcd, is_nonzero, is_quotient, is_remainder}
+use Rattle.dk_meanings.specs.Relations.{is_gcd, is_nonzero, is_quotient, is_remainder}
 use Rattle.dk_template.specs.Admitted.{is_written}
 use Rattle.dk_template.specs.Templates.{rows}
 use Rattle.dk_ternary.specs.Rows.{operation_row}

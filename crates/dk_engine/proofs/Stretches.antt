@@ -18,7 +18,7 @@ use Rattle.dk_forms.specs.Known.{broken, fact}
 use Rattle.dk_forms.specs.Plane.{Before, IsPlaneState, IsSpan, are_aligned, are_parallel, first_off, greater, in_space, is_before, lesser, plane_between, plane_from, plane_join, plane_meet, plane_of, plane_of_all, plane_state, plane_through, span}
 use Rattle.dk_forms.specs.declared.states.State.{State}
 use Rattle.dk_forms.specs.declared.states.State.TheVariants.{Span}
-use Rattle.dk_rows.specs.Meanings.{meanings, state_of}
+use Rattle.dk_meanings.specs.Meanings.{meanings, state_of}
 use Rattle.dk_samples.specs.Samples.{value_in}
 use Rattle.dk_template.specs.Proper.{IsProper}
 use Rattle.dk_template.specs.Templates.{form_of, rows}

@@ -21,9 +21,9 @@ use Rattle.dk_fits.proofs.Whole.{kind_alike, kind_is}
 use Rattle.dk_fits.specs.Fits.{is_whole}
 use Rattle.dk_forms.specs.declared.states.State.{State}
 use Rattle.dk_forms.specs.declared.states.State.TheVariants as state
+use Rattle.dk_meanings.proofs.RowLaws.{laws_of}
+use Rattle.dk_meanings.specs.Meanings.{state_of}
 use Rattle.dk_presence.specs.Patterns.{counted_by}
-use Rattle.dk_rows.proofs.RowLaws.{laws_of}
-use Rattle.dk_rows.specs.Meanings.{state_of}
 use Rattle.dk_samples.specs.Samples.{is_present}
 use Rattle.dk_suppress.proofs.Facts.{conclusions_plain}
 use Rattle.dk_suppress.specs.Rules.{Rule, is_suppressed, rules}

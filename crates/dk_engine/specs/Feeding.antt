@@ -14,7 +14,7 @@ use Rattle.dk_forms.specs.declared.states.State.TheVariants.{Broken}
 use Rattle.dk_presence.specs.Patterns.{capped, present_in}
 use Rattle.dk_presence.specs.Steps.{refined, with_sample_of}
 use Rattle.dk_presence.specs.declared.held.Held.{Held}
-use Rattle.dk_rows.specs.Meanings.{state_of}
+use Rattle.dk_meanings.specs.Meanings.{state_of}
 use Rattle.dk_samples.specs.Samples.{value_in}
 use Rattle.dk_suppress.specs.Rules.{is_suppressed}
 use Rattle.dk_template.specs.Admitted.{admits, is_written}

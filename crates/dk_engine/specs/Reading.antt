@@ -6,8 +6,8 @@ use Rattle.dk_classes.specs.Leaders.{leader_at}
 use Rattle.dk_fits.specs.Fits.{is_whole}
 use Rattle.dk_forms.specs.declared.states.State.{State}
 use Rattle.dk_forms.specs.declared.states.State.TheVariants.{Broken, Empty}
+use Rattle.dk_meanings.specs.Meanings.{state_of}
 use Rattle.dk_presence.specs.Patterns.{counted_by}
-use Rattle.dk_rows.specs.Meanings.{state_of}
 use Rattle.dk_suppress.specs.Rules.{is_suppressed}
 use Rattle.dk_suppress.specs.Soundness.{holds_of}
 use Rattle.dk_template.specs.Exchange.{turned_state, written_order}

@@ -4,7 +4,7 @@ ghost use Rattle.dk_base.specs.Values.{values_of};
 ghost use Rattle.dk_fits.specs.Fits.{is_whole, tuple_in};
 ghost use Rattle.dk_fits.specs.Laws.{IsSample};
 ghost use Rattle.dk_forms.specs.declared.states.State.TheVariants.{Broken};
-ghost use Rattle.dk_rows.specs.Meanings.{state_of};
+ghost use Rattle.dk_meanings.specs.Meanings.{state_of};
 ghost use Rattle.dk_template.specs.Admitted.{admits};
 ghost use Rattle.dk_template.specs.Joins.{joined};
 ghost use Rattle.dk_template.specs.Proper.{IsProper};

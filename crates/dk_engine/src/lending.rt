@@ -1,7 +1,7 @@
 // Kept values as views, and a row's state of one tuple of them.
 ghost use Rattle.std.specs.Prelude.{◌≡◌, [], ◌∷◌, IfOk, IsTrue, OnErr, Some};
 ghost use Rattle.dk_base.specs.Values.{kind_of, value_of};
-ghost use Rattle.dk_rows.specs.Meanings.{state_of};
+ghost use Rattle.dk_meanings.specs.Meanings.{state_of};
 ghost use Rattle.dk_template.specs.Rows.{IsTuple};
 ghost use Rattle.dk_template.specs.Templates.{IsRow, role_kinds};
 ghost use Rattle.dk_engine.specs.Memory.{IsLaidOut, wants_memory};

@@ -15,8 +15,8 @@ use Rattle.dk_base.specs.declared.values.Value.TheVariants as value
 use Rattle.dk_forms.specs.Modulus.{class, remainder}
 use Rattle.dk_forms.specs.declared.states.State.{State}
 use Rattle.dk_forms.specs.declared.states.State.TheVariants.{Empty, Broken, Least, Greatest, Code, Modulus, Straight}
+use Rattle.dk_meanings.specs.Meanings.{meanings, state_of}
 use Rattle.dk_print.specs.Texts.{row_text, row_texts}
-use Rattle.dk_rows.specs.Meanings.{meanings, state_of}
 use Rattle.dk_template.specs.Templates.{rows}
 use Rattle.dk_template.specs.declared.grammar.RowId.{RowId}
 use Rattle.dk_expr.specs.Reads.{HasText, told_state}

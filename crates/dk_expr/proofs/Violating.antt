@@ -6,8 +6,8 @@ use Rattle.std.proofs.lemmas.List.Elements.{All-cons, All-nil}
 use Rattle.dk_base.specs.declared.values.Value.{Value}
 use Rattle.dk_forms.specs.declared.states.State.{State}
 use Rattle.dk_forms.specs.declared.states.State.TheVariants as state
-use Rattle.dk_rows.proofs.RowLaws.{laws_at}
-use Rattle.dk_rows.specs.Meanings.{state_of}
+use Rattle.dk_meanings.proofs.RowLaws.{laws_at}
+use Rattle.dk_meanings.specs.Meanings.{state_of}
 use Rattle.dk_template.specs.Proper.{IsProper}
 use Rattle.dk_template.specs.Rows.{IsTuple}
 use Rattle.dk_template.specs.Templates.{IsRow, form_of, role_kinds}

@@ -15,7 +15,7 @@ use Rattle.dk_base.specs.declared.values.Value.TheVariants as value
 use Rattle.dk_fits.specs.Fits.{fit}
 use Rattle.dk_forms.specs.Distinct.{put}
 use Rattle.dk_forms.specs.Line.{through}
-use Rattle.dk_rows.specs.Meanings.{meanings, state_of}
+use Rattle.dk_meanings.specs.Meanings.{meanings, state_of}
 use Rattle.dk_forms.specs.declared.states.State.TheVariants as state
 use Rattle.dk_suppress.specs.Rules.{rules}
 use Rattle.dk_template.specs.Templates.{rows}

@@ -13,7 +13,7 @@ use Rattle.std.proofs.lemmas.List.{reverse-reverse}
 use Rattle.std.proofs.lemmas.Nat.{and_comm, or_comm, xor_comm}
 use Rattle.dk_arith.proofs.GcdLaws.{gcd-swap}
 use Rattle.dk_arith.specs.Gcd.{gcd}
-use Rattle.dk_rows.specs.Relations.{are_pairwise, differ, is_bitwise, is_gcd, is_maximum, is_minimum, is_product, is_reverse, is_sum}
+use Rattle.dk_meanings.specs.Relations.{are_pairwise, differ, is_bitwise, is_gcd, is_maximum, is_minimum, is_product, is_reverse, is_sum}
 
 -- ---- tests of equality
 module _ {A : Type 0} (same : A → A → Bool) (tells : (x y : A) → Decides (same x y) (x ≡ y)) where

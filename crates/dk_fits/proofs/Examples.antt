@@ -12,8 +12,8 @@ use Rattle.dk_fits.specs.Fits.{fit, holds, premise_holds, tuples_of}
 use Rattle.dk_fits.specs.Instances.{asked_of, instances_of, tuples_over}
 use Rattle.dk_forms.specs.Line.{through}
 use Rattle.dk_forms.specs.declared.states.State.TheVariants.{Empty, Broken, Holds, Greatest, Straight, Plane}
+use Rattle.dk_meanings.specs.Meanings.{meanings, state_of}
 use Rattle.dk_presence.specs.Patterns.{count_of}
-use Rattle.dk_rows.specs.Meanings.{meanings, state_of}
 use Rattle.dk_template.specs.Exchange.{turned_state, written_order}
 use Rattle.dk_template.specs.Templates.{rows}
 use Rattle.dk_template.specs.declared.answers.Premise.TheVariants.{LeastAtLeast}

@@ -15,9 +15,9 @@ use Rattle.dk_forms.proofs.Summaries.{along}
 use Rattle.dk_forms.specs.Laws.{SummaryLaws}
 use Rattle.dk_forms.specs.Plain.{plain_of}
 use Rattle.dk_forms.specs.declared.states.State.TheVariants.{Empty, Broken, Holds}
+use Rattle.dk_meanings.proofs.RowLaws.{laws_of, plain_rows}
+use Rattle.dk_meanings.specs.Meanings.{relation_of, state_of}
 use Rattle.dk_presence.specs.Patterns.{capped, count_of}
-use Rattle.dk_rows.proofs.RowLaws.{laws_of, plain_rows}
-use Rattle.dk_rows.specs.Meanings.{relation_of, state_of}
 use Rattle.dk_samples.specs.Samples.{is_present, value_in}
 use Rattle.dk_template.specs.Fitting.{fits}
 use Rattle.dk_template.specs.Joins.{joined}

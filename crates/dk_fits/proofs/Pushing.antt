@@ -9,8 +9,8 @@ use Rattle.dk_fits.proofs.Fitting.{tuples_both}
 use Rattle.dk_fits.specs.Fits.{fit, is_whole, tuple_in, tuples_of}
 use Rattle.dk_forms.specs.Laws.{IsIn, SameSet}
 use Rattle.dk_forms.specs.declared.states.State.TheVariants.{Broken, Empty}
-use Rattle.dk_rows.proofs.RowLaws.{laws_of}
-use Rattle.dk_rows.specs.Meanings.{state_of}
+use Rattle.dk_meanings.proofs.RowLaws.{laws_of}
+use Rattle.dk_meanings.specs.Meanings.{state_of}
 use Rattle.dk_template.proofs.Absorbing.{broken_absorbs}
 use Rattle.dk_template.specs.Joins.{joined}
 use Rattle.dk_template.specs.Templates.{IsRow, form_of}

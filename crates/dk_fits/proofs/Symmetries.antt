@@ -23,9 +23,9 @@ use Rattle.dk_forms.specs.Offset.{differences, offset_known_of, offset_of, offse
 use Rattle.dk_forms.specs.Plain.{plain_of}
 use Rattle.dk_forms.specs.Plane.{plane_of}
 use Rattle.dk_forms.specs.declared.states.State.TheVariants.{Holds, Broken}
-use Rattle.dk_rows.specs.Meaning.{Meaning, relation, line, plane, offset, state_by}
-use Rattle.dk_rows.specs.Meanings.{meaning_of, meanings, of_three, of_two}
-use Rattle.dk_rows.specs.Relations.{are_pairwise, differ, is_bitwise, is_gcd, is_maximum, is_minimum, is_product, is_reverse, is_sum}
+use Rattle.dk_meanings.specs.Meaning.{Meaning, relation, line, plane, offset, state_by}
+use Rattle.dk_meanings.specs.Meanings.{meaning_of, meanings, of_three, of_two}
+use Rattle.dk_meanings.specs.Relations.{are_pairwise, differ, is_bitwise, is_gcd, is_maximum, is_minimum, is_product, is_reverse, is_sum}
 use Rattle.dk_template.proofs.Exchanges.{lines_exchange, offsets_exchange, planes_exchange}
 use Rattle.dk_template.proofs.Table.{length-rows}
 use Rattle.dk_template.specs.Exchange.{exchange, exchanged_state, swap, swapped}

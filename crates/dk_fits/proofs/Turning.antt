@@ -9,7 +9,7 @@ use Rattle.dk_fits.proofs.Symmetries.{HasArity, row_exchanges}
 use Rattle.dk_fits.specs.Fits.{fit, is_whole, tuple_in, tuples_of}
 use Rattle.dk_fits.specs.Laws.{FitsTurn, SymmetricRowsExchange, may_exchange}
 use Rattle.dk_forms.specs.declared.states.State.{State}
-use Rattle.dk_rows.specs.Meanings.{state_of}
+use Rattle.dk_meanings.specs.Meanings.{state_of}
 use Rattle.dk_samples.specs.Samples.{is_present, value_in}
 use Rattle.dk_template.specs.Exchange.{arrange_tuple, descends, disarrange_state, exchange, exchanged_back, exchanged_state, order_tuple}
 use Rattle.dk_template.specs.Templates.{arity_of, template_of}

@@ -17,7 +17,7 @@ use Rattle.dk_base.specs.declared.values.Value.{Value}
 use Rattle.dk_base.specs.declared.values.Value.TheVariants as value
 use Rattle.dk_fits.specs.Fits.{fit, is_whole, tuple_in, tuples_of}
 use Rattle.dk_fits.specs.Laws.{FitsAreProper, IsSample}
-use Rattle.dk_rows.proofs.RowLaws.{laws_of}
+use Rattle.dk_meanings.proofs.RowLaws.{laws_of}
 use Rattle.dk_samples.specs.Samples.{is_present, value_in}
 use Rattle.dk_template.specs.Admitted.{admits, same_kind, suits}
 use Rattle.dk_template.specs.Rows.{IsTuple}

@@ -11,7 +11,7 @@ use Rattle.dk_forms.specs.declared.states.State.TheVariants.{Empty, Broken, Hold
 use Rattle.dk_fits.specs.Fits.{fit, holds, is_whole, tuple_in, tuples_of}
 use Rattle.dk_fits.specs.Instances.{ComesBefore, IsInstance, instances_of}
 use Rattle.dk_presence.specs.Patterns.{capped, count_of}
-use Rattle.dk_rows.specs.Meanings.{relation_of, state_of}
+use Rattle.dk_meanings.specs.Meanings.{relation_of, state_of}
 use Rattle.dk_samples.specs.Samples.{Agree}
 use Rattle.dk_template.specs.Admitted.{admits}
 use Rattle.dk_template.specs.Exchange.{exchange, exchanged_state, turned_state, written_order}

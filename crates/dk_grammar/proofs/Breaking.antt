@@ -5,8 +5,8 @@ use Rattle.dk_base.specs.declared.values.Value.{Value}
 use Rattle.dk_forms.specs.Plain.{plain_join, plain_of}
 use Rattle.dk_forms.specs.declared.states.State.{State}
 use Rattle.dk_forms.specs.declared.states.State.TheVariants.{Broken, Holds}
-use Rattle.dk_rows.proofs.RowLaws.{plain_rows}
-use Rattle.dk_rows.specs.Meanings.{relation_of, state_of}
+use Rattle.dk_meanings.proofs.RowLaws.{plain_rows}
+use Rattle.dk_meanings.specs.Meanings.{relation_of, state_of}
 use Rattle.dk_template.specs.Joins.{joined}
 use Rattle.dk_template.specs.Proper.{IsProper}
 use Rattle.dk_template.specs.Templates.{IsRow, form_of}

@@ -11,7 +11,7 @@ use Rattle.dk_fits.proofs.Fitting.{count_of_tuples, fit_of_none}
 use Rattle.dk_forms.specs.declared.states.State.TheVariants.{Empty}
 use Rattle.dk_base.specs.SameValues.{same_value}
 use Rattle.dk_presence.specs.Patterns.{capped, count_of}
-use Rattle.dk_rows.specs.Meanings.{state_of}
+use Rattle.dk_meanings.specs.Meanings.{state_of}
 use Rattle.dk_samples.specs.Samples.{is_present, value_in}
 use Rattle.dk_hierarchy.specs.Edges.{AgreementThroughEdges, CountsThroughEdges, FitsThroughEdges, partner_at, partners_at, same_through}
 use Rattle.dk_hierarchy.specs.Samples.{mapped_sample}

@@ -22,7 +22,7 @@ use Rattle.dk_points.specs.Table.{Point, declared_point}
 use Rattle.dk_points.specs.Vars.{entry_before, orig_vars, vars_of}
 use Rattle.dk_graph.specs.Names.{place_of}
 use Rattle.dk_print.specs.Texts.{row_text, row_texts}
-use Rattle.dk_rows.specs.Meanings.{meanings, state_of}
+use Rattle.dk_meanings.specs.Meanings.{meanings, state_of}
 use Rattle.dk_suppress.specs.Rules.{rules}
 use Rattle.dk_template.specs.Templates.{rows}
 use Rattle.dk_template.specs.declared.grammar.Grammar.TheVariants as grammar

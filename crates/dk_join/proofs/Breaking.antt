@@ -25,9 +25,9 @@ use Rattle.dk_fits.proofs.Turning.{fits_turn}
 use Rattle.dk_fits.specs.Fits.{fit, tuple_in}
 use Rattle.dk_forms.specs.Plain.{plain_of}
 use Rattle.dk_forms.specs.declared.states.State.TheVariants.{Broken}
+use Rattle.dk_meanings.proofs.RowLaws.{plain_rows}
+use Rattle.dk_meanings.specs.Meanings.{meanings, relation_of, state_of}
 use Rattle.dk_presence.specs.Patterns.{counted_by}
-use Rattle.dk_rows.proofs.RowLaws.{plain_rows}
-use Rattle.dk_rows.specs.Meanings.{meanings, relation_of, state_of}
 use Rattle.dk_samples.specs.Samples.{value_in}
 use Rattle.dk_suppress.specs.Rules.{is_suppressed}
 use Rattle.dk_template.proofs.WrittenTuples.{written_all}

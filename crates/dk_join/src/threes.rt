@@ -11,7 +11,7 @@ ghost use Rattle.dk_engine.specs.declared.slot.Slot.{Slot as DeclaredSlot};
 ghost use Rattle.dk_forms.specs.declared.states.State.TheVariants.{Broken};
 ghost use Rattle.dk_join.specs.Noted.{is_behind};
 ghost use Rattle.dk_join.specs.Numbers.{number_of};
-ghost use Rattle.dk_rows.specs.Meanings.{state_of};
+ghost use Rattle.dk_meanings.specs.Meanings.{state_of};
 ghost use Rattle.dk_template.specs.Admitted.{admits};
 ghost use Rattle.dk_template.specs.Premises.{MayWantMemory};
 ghost use Rattle.dk_template.specs.Proper.{IsProper};

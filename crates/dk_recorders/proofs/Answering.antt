@@ -19,9 +19,9 @@ use Rattle.dk_forms.proofs.PlainLaws.{plain_summary}
 use Rattle.dk_forms.specs.Laws.{IsIn, SameSet}
 use Rattle.dk_forms.specs.Plain.{plain_of}
 use Rattle.dk_forms.specs.declared.states.State.{State}
+use Rattle.dk_meanings.specs.Meaning.{Meaning, relation, state_by}
+use Rattle.dk_meanings.specs.Meanings.{meanings, state_of}
 use Rattle.dk_presence.specs.Patterns.{capped, count_of}
-use Rattle.dk_rows.specs.Meaning.{Meaning, relation, state_by}
-use Rattle.dk_rows.specs.Meanings.{meanings, state_of}
 use Rattle.dk_samples.specs.Samples.{is_present, value_in}
 use Rattle.dk_template.specs.Admitted.{same_kind}
 use Rattle.dk_template.specs.declared.grammar.RowId.{RowId}

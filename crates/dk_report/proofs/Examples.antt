@@ -22,6 +22,7 @@ use Rattle.dk_forms.specs.Plane.{plane_from, plane_through}
 use Rattle.dk_graph.specs.Graphs.{depth_of, edges, edges_from, edges_into, links}
 use Rattle.dk_graph.specs.Names.{place_of}
 use Rattle.dk_hierarchy.specs.Samples.{OwnSamples, partners_of, samples_of}
+use Rattle.dk_meanings.specs.Meanings.{meanings, state_of}
 use Rattle.dk_points.specs.Links.{kept_edges, nodes}
 use Rattle.dk_points.specs.Names.{method_len, role_of}
 use Rattle.dk_points.specs.Partners.{partner_of}
@@ -29,7 +30,6 @@ use Rattle.dk_points.specs.Table.{Point, declared_point}
 use Rattle.dk_points.specs.Vars.{entry_before, orig_vars, vars_of}
 use Rattle.dk_print.specs.Sections.{section_text}
 use Rattle.dk_print.specs.Texts.{row_text, row_texts}
-use Rattle.dk_rows.specs.Meanings.{meanings, state_of}
 use Rattle.dk_suppress.specs.Rules.{rules}
 use Rattle.dk_template.specs.Templates.{rows}
 use Rattle.dk_template.specs.declared.grammar.Grammar.TheVariants as grammar

@@ -24,8 +24,8 @@ use Rattle.dk_fits.specs.Instances.{are_distinct, is_asked}
 use Rattle.dk_forms.specs.Laws.{IsIn}
 use Rattle.dk_forms.specs.declared.states.State.{State}
 use Rattle.dk_forms.specs.declared.states.State.TheVariants.{Broken, Empty}
+use Rattle.dk_meanings.specs.Meanings.{state_of}
 use Rattle.dk_presence.specs.Patterns.{has}
-use Rattle.dk_rows.specs.Meanings.{state_of}
 use Rattle.dk_samples.specs.Samples.{is_present}
 use Rattle.dk_suppress.specs.Rules.{is_suppressed}
 use Rattle.dk_suppress.specs.Soundness.{fit_of}

@@ -14,8 +14,8 @@ use Rattle.dk_forms.specs.Truth.{truth_of}
 use Rattle.dk_forms.specs.declared.states.State.{State}
 use Rattle.dk_lanes.specs.declared.relation.Rel.{Rel}
 use Rattle.dk_lanes.specs.declared.relation.Rel.TheVariants.{Eq, Lt, Le, Gt, Ge}
-use Rattle.dk_rows.specs.Laws.{is_row}
-use Rattle.dk_rows.specs.Relations.{is_nonnull, is_nonzero, is_nonzero_hash}
+use Rattle.dk_meanings.specs.Laws.{is_row}
+use Rattle.dk_meanings.specs.Relations.{is_nonnull, is_nonzero, is_nonzero_hash}
 use Rattle.dk_sequence.specs.declared.elements.bound.Bound.{Bound}
 use Rattle.dk_sequence.specs.declared.elements.bound.Bound.TheVariants as bound
 use Rattle.dk_sequence.specs.declared.elements.compare.Compare.{Compare}

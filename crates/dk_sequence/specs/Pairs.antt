@@ -7,8 +7,8 @@ use Rattle.dk_base.specs.Tuples.{bools_of, hash_of, hashes_of, int_of, ints_of, 
 use Rattle.dk_base.specs.declared.kinds.Kind.{Kind}
 use Rattle.dk_base.specs.declared.kinds.Kind.TheVariants as kind
 use Rattle.dk_base.specs.declared.values.Value.{Value}
-use Rattle.dk_rows.specs.Laws.{is_row}
-use Rattle.dk_rows.specs.Relations.{are_pairwise, is_member, is_reverse, is_subset}
+use Rattle.dk_meanings.specs.Laws.{is_row}
+use Rattle.dk_meanings.specs.Relations.{are_pairwise, is_member, is_reverse, is_subset}
 use Rattle.dk_sequence.specs.declared.pairs.equality.EqualSequences.{EqualSequences}
 use Rattle.dk_sequence.specs.declared.pairs.equality.EqualSequences.TheVariants as equal
 use Rattle.dk_sequence.specs.declared.pairs.membership.Member.{Member}

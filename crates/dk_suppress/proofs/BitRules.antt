@@ -12,7 +12,7 @@ use Rattle.std.proofs.Math.Nat.{mod-eq_of_lt, one-dvd}
 use Rattle.dk_arith.proofs.GcdLaws.{gcd-swap, gcd_is}
 use Rattle.dk_arith.specs.Gcd.{gcd}
 use Rattle.dk_base.specs.Numbers.{fits_i64}
-use Rattle.dk_rows.specs.Relations.{is_bitwise, is_gcd, is_multiple, is_nonzero}
+use Rattle.dk_meanings.specs.Relations.{is_bitwise, is_gcd, is_multiple, is_nonzero}
 use Rattle.dk_suppress.proofs.NumberRules.{equal, same}
 
 -- ---- bit by bit

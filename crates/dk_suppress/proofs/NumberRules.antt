@@ -6,7 +6,7 @@ use Rattle.std.proofs.lemmas.Bool.{and_from, and_parts, eq-eqb, eqb-true, false�
 use Rattle.std.proofs.lemmas.Bool.Decides.{Decides-int_eq}
 use Rattle.std.proofs.lemmas.Int.{clamps, ints}
 use Rattle.std.proofs.Math.Nat.{div-eq_of_lt, div-one, div_self, mod-eq_of_lt, mod-one, mod_self, zero-div, zero-mod}
-use Rattle.dk_rows.specs.Relations.{is_difference, is_maximum, is_minimum, is_multiple, is_nonzero, is_product, is_quotient, is_remainder, is_square, is_sum}
+use Rattle.dk_meanings.specs.Relations.{is_difference, is_maximum, is_minimum, is_multiple, is_nonzero, is_product, is_quotient, is_remainder, is_square, is_sum}
 
 pub equal : (x y : ℤ) → int_eq x y ≡ true → x ≡ y
 equal x y h = (Decides-int_eq x y).0 h

@@ -17,10 +17,10 @@ use Rattle.dk_forms.specs.Ints.{ints_of, ints_state}
 use Rattle.dk_forms.specs.Least.{least_of}
 use Rattle.dk_forms.specs.Plain.{plain_of}
 use Rattle.dk_forms.specs.declared.states.State.TheVariants as state
-use Rattle.dk_rows.proofs.RowLaws.{is_row_by, plain_rows}
-use Rattle.dk_rows.specs.Laws.{is_row}
-use Rattle.dk_rows.specs.Meaning.{Meaning, relation, least, greatest, ints, truth, code, texts, modulus, line, plane, offset, state_by}
-use Rattle.dk_rows.specs.Meanings.{meaning_of, meanings, relation_of, state_of}
+use Rattle.dk_meanings.proofs.RowLaws.{is_row_by, plain_rows}
+use Rattle.dk_meanings.specs.Laws.{is_row}
+use Rattle.dk_meanings.specs.Meaning.{Meaning, relation, least, greatest, ints, truth, code, texts, modulus, line, plane, offset, state_by}
+use Rattle.dk_meanings.specs.Meanings.{meaning_of, meanings, relation_of, state_of}
 use Rattle.dk_template.specs.Fitting.{fits}
 use Rattle.dk_template.specs.Premises.{is_greatest_to, is_least_from, is_only, one_of_int, row_of, suffices}
 use Rattle.dk_template.specs.Templates.{form_of, is_plain}

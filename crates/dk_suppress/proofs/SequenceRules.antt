@@ -8,7 +8,7 @@ use Rattle.std.proofs.lemmas.Bool.{and_from, and_parts, eq-eqb, eqb-true, falseâ
 use Rattle.std.proofs.lemmas.List.{reverse-append}
 use Rattle.std.proofs.lemmas.List.Sorted.{IsPermutation-reverse, list_any-IsPermutation}
 use Rattle.std.proofs.lemmas.Slice.Eq.{bytes_eq-Decides}
-use Rattle.dk_rows.specs.Relations.{all_relate, are_pairwise, are_sorted, is_member, is_nonzero, is_reverse, is_subset}
+use Rattle.dk_meanings.specs.Relations.{all_relate, are_pairwise, are_sorted, is_member, is_nonzero, is_reverse, is_subset}
 use Rattle.dk_suppress.proofs.NumberRules.{equal, from_one, same, to_minus_one}
 
 -- ---- from each element, or each pair

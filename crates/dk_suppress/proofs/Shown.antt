@@ -6,7 +6,7 @@ use Rattle.dk_base.specs.declared.values.Value.{Value}
 use Rattle.dk_base.specs.declared.values.Value.TheVariants as value
 use Rattle.dk_fits.specs.Fits.{fit}
 use Rattle.dk_forms.specs.Distinct.{put}
-use Rattle.dk_rows.specs.Meanings.{meanings, state_of}
+use Rattle.dk_meanings.specs.Meanings.{meanings, state_of}
 use Rattle.dk_suppress.specs.Rules.{Rule, rules}
 use Rattle.dk_suppress.specs.Soundness.{fit_of}
 use Rattle.dk_template.specs.Premises.{premise_fits}

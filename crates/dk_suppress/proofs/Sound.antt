@@ -12,9 +12,9 @@ use Rattle.dk_base.specs.declared.values.Value.{Value}
 use Rattle.dk_base.specs.declared.values.Value.TheVariants as value
 use Rattle.dk_forms.specs.Plain.{plain_of}
 use Rattle.dk_forms.specs.declared.states.State.TheVariants as state
-use Rattle.dk_rows.proofs.RowLaws.{is_row_by, plain_rows}
-use Rattle.dk_rows.specs.Laws.{is_row}
-use Rattle.dk_rows.specs.Meanings.{meanings, relation_of, state_of}
+use Rattle.dk_meanings.proofs.RowLaws.{is_row_by, plain_rows}
+use Rattle.dk_meanings.specs.Laws.{is_row}
+use Rattle.dk_meanings.specs.Meanings.{meanings, relation_of, state_of}
 use Rattle.dk_samples.specs.Samples.{is_present, value_in}
 use Rattle.dk_suppress.proofs.Saying.{Says, can_say, plain_form, premise_says}
 use Rattle.dk_suppress.proofs.TupleRules.{AreWritten, Follows, IsSound, part, rules_sound}

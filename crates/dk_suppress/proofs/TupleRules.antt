@@ -7,8 +7,8 @@ use Rattle.dk_base.specs.Spelling.{IsWritten}
 use Rattle.dk_base.specs.Tuples.{hashes_of, int_of, ints_of, texts_of, value_at}
 use Rattle.dk_base.specs.declared.values.Value.{Value}
 use Rattle.dk_base.specs.declared.values.Value.TheVariants as value
-use Rattle.dk_rows.specs.Meanings.{meanings, relation_of}
-use Rattle.dk_rows.specs.Relations.{int_ge, int_gt}
+use Rattle.dk_meanings.specs.Meanings.{meanings, relation_of}
+use Rattle.dk_meanings.specs.Relations.{int_ge, int_gt}
 use Rattle.dk_suppress.proofs.BitRules.{and_of_equal, and_of_ones, and_of_zero, and_with_ones, and_with_zero, gcd_of_divisor, gcd_of_one, gcd_with_divisor, gcd_with_one, or_of_equal, or_of_zero, or_with_zero, xor_of_equal, xor_of_zero, xor_with_zero}
 use Rattle.dk_suppress.proofs.NumberRules.{above_differs, below_differs, below_or_equal, difference_of_sum, equal_or_above, equal_or_below, first_is_maximum, first_is_minimum, from_one, multiple_of_itself, multiple_of_minus_one, multiple_of_one, product_of_one, product_of_zero, product_with_one, product_with_zero, quotient_by_itself, quotient_by_one, quotient_of_smaller, quotient_of_zero, remainder_of_multiple, remainder_of_smaller, second_is_maximum, second_is_minimum, square_of_small, sum_of_zero, sum_with_zero, to_minus_one, zero_is_multiple}
 use Rattle.dk_suppress.proofs.Saying.{Says}

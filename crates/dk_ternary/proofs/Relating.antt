@@ -3,7 +3,7 @@ use Rattle.std.specs.Prelude.{◌≡◌, List, [], ◌∷◌, refl}
 use Rattle.dk_base.specs.Tuples.{int_of, value_at}
 use Rattle.dk_base.specs.declared.values.Value.{Value}
 use Rattle.dk_forms.specs.Plane.{plane_of}
-use Rattle.dk_rows.specs.Meanings.{meanings, relation_of, state_of}
+use Rattle.dk_meanings.specs.Meanings.{meanings, relation_of, state_of}
 use Rattle.dk_ternary.specs.Rows.{is_result, linear_ternary_row, operation_row}
 use Rattle.dk_ternary.specs.declared.operation.Operation.{Operation}
 use Rattle.dk_ternary.specs.declared.operation.Operation.TheVariants.{Sum, Difference, Product, Minimum, Maximum, Quotient, Remainder, And, Or, Xor, Gcd}

@@ -1,7 +1,7 @@
 -- The numbers of the rows of three variables, and what these rows state of numbers.
 use Rattle.std.specs.Prelude.{◌≡◌, ◌≤◌, ◌⊎◌, ℤ, bit_and, bit_or, bit_xor, Bool, IsTrue, refl}
-use Rattle.dk_rows.specs.Laws.{is_row}
-use Rattle.dk_rows.specs.Relations.{is_bitwise, is_difference, is_gcd, is_maximum, is_minimum, is_product, is_quotient, is_remainder, is_sum}
+use Rattle.dk_meanings.specs.Laws.{is_row}
+use Rattle.dk_meanings.specs.Relations.{is_bitwise, is_difference, is_gcd, is_maximum, is_minimum, is_product, is_quotient, is_remainder, is_sum}
 use Rattle.dk_template.specs.Numbers as number
 use Rattle.dk_template.specs.declared.grammar.RowId.{RowId}
 use Rattle.dk_ternary.specs.declared.operation.Operation.{Operation}

@@ -1,6 +1,6 @@
 // Whether a number is the result of an operation on two others. Nothing wraps.
 ghost use Rattle.std.specs.Prelude.{◌≡◌};
-ghost use Rattle.dk_rows.specs.Relations.{is_difference, is_gcd, is_product, is_quotient, is_remainder, is_sum};
+ghost use Rattle.dk_meanings.specs.Relations.{is_difference, is_gcd, is_product, is_quotient, is_remainder, is_sum};
 
 use dk_arith::gcd_of;
 

@@ -109,8 +109,8 @@ fn holds(operation: Operation, tuple: &[View<'_>]) -> bool
 }
 
 impl Row for Operation {
-    ghost use Rattle.dk_rows.proofs.RowLaws.{laws_by};
-    ghost use Rattle.dk_rows.specs.Meanings.{state_of};
+    ghost use Rattle.dk_meanings.proofs.RowLaws.{laws_by};
+    ghost use Rattle.dk_meanings.specs.Meanings.{state_of};
     ghost use Rattle.dk_template.specs.Templates.{form_of, role_kinds};
     ghost use Rattle.dk_ternary.specs.Rows.{operation_is_row, operation_row};
 

@@ -46,8 +46,8 @@ fn one_stays(state: &State, tuple: &[View<'_>]) -> bool
 }
 
 impl Row for LinearTernary {
-    ghost use Rattle.dk_rows.proofs.RowLaws.{laws_by};
-    ghost use Rattle.dk_rows.specs.Meanings.{state_of};
+    ghost use Rattle.dk_meanings.proofs.RowLaws.{laws_by};
+    ghost use Rattle.dk_meanings.specs.Meanings.{state_of};
     ghost use Rattle.dk_template.specs.Templates.{form_of, role_kinds};
     ghost use Rattle.dk_ternary.specs.Rows.{linear_ternary_is_row, linear_ternary_row};
 

@@ -9,8 +9,8 @@ use Rattle.dk_forms.specs.Modulus.{modulus_of}
 use Rattle.dk_forms.specs.Texts.{texts_of}
 use Rattle.dk_forms.specs.Truth.{truth_of}
 use Rattle.dk_forms.specs.declared.states.State.TheVariants.{Ints, Truth, Code}
-use Rattle.dk_rows.specs.Meanings.{meanings, relation_of, state_of}
-use Rattle.dk_rows.specs.Relations.{is_nonnull, is_nonzero, is_nonzero_hash}
+use Rattle.dk_meanings.specs.Meanings.{meanings, relation_of, state_of}
+use Rattle.dk_meanings.specs.Relations.{is_nonnull, is_nonzero, is_nonzero_hash}
 use Rattle.dk_unary.specs.Rows.{bound_row, bound_state, modulus_row, non_null_row, one_of_row}
 use Rattle.dk_unary.specs.declared.bound.Bound.{Bound}
 use Rattle.dk_unary.specs.declared.bound.Bound.TheVariants as bound

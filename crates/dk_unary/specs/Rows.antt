@@ -2,7 +2,7 @@
 use Rattle.std.specs.Prelude.{◌≤◌, ℤ, IsTrue, refl}
 use Rattle.dk_forms.specs.declared.states.State.{State}
 use Rattle.dk_forms.specs.declared.states.State.TheVariants.{Least, Greatest}
-use Rattle.dk_rows.specs.Laws.{is_row}
+use Rattle.dk_meanings.specs.Laws.{is_row}
 use Rattle.dk_template.specs.Numbers as number
 use Rattle.dk_template.specs.declared.grammar.RowId.{RowId}
 use Rattle.dk_unary.specs.declared.bound.Bound.{Bound}

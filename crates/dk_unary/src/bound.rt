@@ -53,8 +53,8 @@ fn one_stays(bound: Bound, state: &State, x: i64) -> bool
 }
 
 impl Row for Bound {
-    ghost use Rattle.dk_rows.proofs.RowLaws.{laws_by};
-    ghost use Rattle.dk_rows.specs.Meanings.{state_of};
+    ghost use Rattle.dk_meanings.proofs.RowLaws.{laws_by};
+    ghost use Rattle.dk_meanings.specs.Meanings.{state_of};
     ghost use Rattle.dk_template.specs.Templates.{form_of, role_kinds};
     ghost use Rattle.dk_unary.specs.Rows.{bound_is_row, bound_row};
 

@@ -1,8 +1,8 @@
 // The rows that state that no value is 0 or `null`.
 ghost use Rattle.std.specs.Prelude.{◌≡◌};
 ghost use Rattle.dk_base.specs.Values.{values_of};
-ghost use Rattle.dk_rows.specs.Meanings.{relation_of};
-ghost use Rattle.dk_rows.specs.Relations.{is_nonnull, is_nonzero};
+ghost use Rattle.dk_meanings.specs.Meanings.{relation_of};
+ghost use Rattle.dk_meanings.specs.Relations.{is_nonnull, is_nonzero};
 ghost use Rattle.dk_template.specs.Rows.{IsTuple};
 ghost use Rattle.dk_template.specs.Templates.{role_kinds};
 ghost use Rattle.dk_unary.specs.Rows.{non_null_row};
@@ -61,8 +61,8 @@ impl NonNull {
 }
 
 impl Row for NonNull {
-    ghost use Rattle.dk_rows.proofs.RowLaws.{laws_by};
-    ghost use Rattle.dk_rows.specs.Meanings.{state_of};
+    ghost use Rattle.dk_meanings.proofs.RowLaws.{laws_by};
+    ghost use Rattle.dk_meanings.specs.Meanings.{state_of};
     ghost use Rattle.dk_template.specs.Templates.{form_of, role_kinds};
     ghost use Rattle.dk_unary.specs.Rows.{non_null_is_row, non_null_row};
 

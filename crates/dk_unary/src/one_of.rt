@@ -1,7 +1,7 @@
 // The rows that keep the values of a variable, where they are few.
 ghost use Rattle.std.specs.Prelude.{◌≡◌, ◌↔◌, [], ◌∷◌, IfOk, IsTrue, OnErr};
 ghost use Rattle.dk_base.specs.Values.{values_of};
-ghost use Rattle.dk_rows.specs.Meanings.{state_of};
+ghost use Rattle.dk_meanings.specs.Meanings.{state_of};
 ghost use Rattle.dk_template.specs.Joins.{joined};
 ghost use Rattle.dk_template.specs.Proper.{IsProper};
 ghost use Rattle.dk_template.specs.Rows.{IsTuple};
@@ -73,8 +73,8 @@ fn one_stays(of: OneOf, state: &State, tuple: &[View<'_>]) -> bool
 }
 
 impl Row for OneOf {
-    ghost use Rattle.dk_rows.proofs.RowLaws.{laws_by};
-    ghost use Rattle.dk_rows.specs.Meanings.{state_of};
+    ghost use Rattle.dk_meanings.proofs.RowLaws.{laws_by};
+    ghost use Rattle.dk_meanings.specs.Meanings.{state_of};
     ghost use Rattle.dk_template.specs.Templates.{form_of, role_kinds};
     ghost use Rattle.dk_unary.specs.Rows.{one_of_is_row, one_of_row};
 

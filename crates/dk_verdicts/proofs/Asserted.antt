@@ -25,7 +25,7 @@ use Rattle.dk_hierarchy.specs.Samples.{all_vars_of, mapped_sample, own_samples_o
 use Rattle.dk_points.proofs.Nodes.{length-nodes}
 use Rattle.dk_points.specs.Links.{nodes}
 use Rattle.dk_points.specs.Table.{Point, names, name_of}
-use Rattle.dk_rows.proofs.RowLaws.{laws_of}
+use Rattle.dk_meanings.proofs.RowLaws.{laws_of}
 use Rattle.dk_template.specs.Admitted.{admits, is_written}
 use Rattle.dk_template.specs.Fitting.{fits}
 use Rattle.dk_template.specs.Proper.{IsProper}

@@ -19,10 +19,10 @@ use Rattle.dk_hierarchy.specs.Edges.{partners_at}
 use Rattle.dk_hierarchy.specs.Samples.{all_vars_of, mapped_sample, own_samples_of, samples_of}
 use Rattle.dk_hierarchy.specs.Ways.{repeated_samples, samples_through, samples_through_all}
 use Rattle.dk_hierarchy.specs.declared.way.Way.{Way}
+use Rattle.dk_meanings.proofs.RowLaws.{laws_of}
+use Rattle.dk_meanings.specs.Meanings.{state_of}
 use Rattle.dk_points.specs.Table.{Point}
 use Rattle.dk_presence.specs.Patterns.{capped, count_of}
-use Rattle.dk_rows.proofs.RowLaws.{laws_of}
-use Rattle.dk_rows.specs.Meanings.{state_of}
 use Rattle.dk_template.specs.Joins.{joined}
 use Rattle.dk_template.specs.Templates.{IsRow, form_of}
 use Rattle.dk_template.specs.declared.grammar.RowId.{RowId}

@@ -7,9 +7,9 @@ use Rattle.std.proofs.lemmas.List.Elements.{All-append, All-cons, All-nil}
 use Rattle.dk_base.specs.declared.values.Value.{Value}
 use Rattle.dk_derive.specs.Values.{values_by_form}
 use Rattle.dk_hierarchy.specs.Samples.{all_vars_of}
+use Rattle.dk_meanings.specs.Meanings.{state_of}
 use Rattle.dk_points.specs.Table.{Point}
 use Rattle.dk_presence.specs.Patterns.{capped}
-use Rattle.dk_rows.specs.Meanings.{state_of}
 use Rattle.dk_verdicts.proofs.Checked.{get_within, there_too}
 use Rattle.dk_verdicts.proofs.Found.{Tell, all_found, found_behind}
 use Rattle.dk_verdicts.proofs.Growth.{all_known}

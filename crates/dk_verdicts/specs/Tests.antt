@@ -8,8 +8,8 @@ use Rattle.dk_fits.specs.Fits.{is_whole, tuple_in, tuples_of}
 use Rattle.dk_forms.specs.declared.states.State.{State}
 use Rattle.dk_forms.specs.declared.states.State.TheVariants.{Empty}
 use Rattle.dk_hierarchy.specs.Ways.{repeated_samples}
+use Rattle.dk_meanings.specs.Meanings.{state_of}
 use Rattle.dk_presence.specs.Patterns.{capped}
-use Rattle.dk_rows.specs.Meanings.{state_of}
 use Rattle.dk_template.specs.Joins.{joined}
 use Rattle.dk_template.specs.Proper.{IsProper}
 use Rattle.dk_template.specs.Rows.{IsTuple}

@@ -14,7 +14,7 @@ use Rattle.dk_forms.specs.Truth.{truth_of}
 use Rattle.dk_lanes.specs.Lanes.{all_relate, is_sorted}
 use Rattle.dk_lanes.specs.declared.relation.Rel.{Rel}
 use Rattle.dk_lanes.specs.declared.relation.Rel.TheVariants.{Eq, Lt, Le, Gt, Ge}
-use Rattle.dk_rows.specs.Meanings.{meanings, relation_of, state_of}
+use Rattle.dk_meanings.specs.Meanings.{meanings, relation_of, state_of}
 use Rattle.dk_sequence.specs.Elements.{bound_row, bound_state, compare_number, has_no_null, non_null_row, one_of_row, one_of_state, sorted_number}
 use Rattle.dk_sequence.specs.declared.elements.bound.Bound.{Bound}
 use Rattle.dk_sequence.specs.declared.elements.bound.Bound.TheVariants as bound

@@ -5,7 +5,7 @@ use Rattle.std.proofs.lemmas.List.{append-nil}
 use Rattle.dk_base.specs.Tuples.{ints_of, value_at}
 use Rattle.dk_base.specs.declared.values.Value.{Value}
 use Rattle.dk_forms.specs.Offset.{differences, offset_of}
-use Rattle.dk_rows.specs.Meanings.{meanings, relation_of, state_of}
+use Rattle.dk_meanings.specs.Meanings.{meanings, relation_of, state_of}
 use Rattle.dk_sequence.specs.Pairs.{are_equal_by, are_related, equal_row, is_member_by, is_subset_by, member_row, offset_row, partners_row, subset_row}
 use Rattle.dk_sequence.specs.declared.pairs.equality.EqualSequences.{EqualSequences}
 use Rattle.dk_sequence.specs.declared.pairs.equality.EqualSequences.TheVariants as equal

@@ -8,7 +8,7 @@ use Rattle.std.proofs.Math.Dec.{eqb-suc-suc, eqb-suc-zero, eqb-zero-suc}
 use Rattle.std.proofs.lemmas.Bool.{eq-eqb}
 use Rattle.std.proofs.lemmas.List.{length-reverse}
 use Rattle.std.proofs.lemmas.List.Folds.{list_all-map}
-use Rattle.dk_rows.specs.Relations.{are_pairwise, is_reverse}
+use Rattle.dk_meanings.specs.Relations.{are_pairwise, is_reverse}
 
 both_orders : (a b c : Bool) → (a && (b && c)) ≡ (b && (a && c))
 both_orders true b c = refl

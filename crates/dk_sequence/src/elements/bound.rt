@@ -60,8 +60,8 @@ fn elements_stay(bound: Bound, state: &State, tuple: &[View<'_>]) -> bool
 
 impl Row for Bound {
     ghost use Rattle.dk_sequence.specs.Elements.{bound_is_row, bound_row};
-    ghost use Rattle.dk_rows.proofs.RowLaws.{laws_by};
-    ghost use Rattle.dk_rows.specs.Meanings.{state_of};
+    ghost use Rattle.dk_meanings.proofs.RowLaws.{laws_by};
+    ghost use Rattle.dk_meanings.specs.Meanings.{state_of};
     ghost use Rattle.dk_template.specs.Templates.{form_of, role_kinds};
 
     ghost kinds = { λ row. role_kinds (bound_row row) };

@@ -3,7 +3,7 @@ ghost use Rattle.std.specs.Prelude.{◌≡◌, [], ◌∷◌};
 ghost use Rattle.std.specs.List.{list_all};
 ghost use Rattle.dk_base.specs.Tuples.{value_at};
 ghost use Rattle.dk_base.specs.Values.{values_of};
-ghost use Rattle.dk_rows.specs.Relations.{is_nonnull, is_nonzero, is_nonzero_hash};
+ghost use Rattle.dk_meanings.specs.Relations.{is_nonnull, is_nonzero, is_nonzero_hash};
 ghost use Rattle.dk_sequence.specs.Elements.{has_no_null, non_null_kind, non_null_row};
 ghost use Rattle.dk_template.specs.Rows.{IsTuple};
 
@@ -77,8 +77,8 @@ impl NonNull {
 
 impl Row for NonNull {
     ghost use Rattle.dk_sequence.specs.Elements.{non_null_is_row, non_null_row};
-    ghost use Rattle.dk_rows.proofs.RowLaws.{laws_by};
-    ghost use Rattle.dk_rows.specs.Meanings.{state_of};
+    ghost use Rattle.dk_meanings.proofs.RowLaws.{laws_by};
+    ghost use Rattle.dk_meanings.specs.Meanings.{state_of};
     ghost use Rattle.dk_template.specs.Templates.{form_of, role_kinds};
 
     ghost kinds = { λ row. role_kinds (non_null_row row) };

@@ -72,8 +72,8 @@ fn elements_stay(of: OneOf, state: &State, tuple: &[View<'_>]) -> bool
 
 impl Row for OneOf {
     ghost use Rattle.dk_sequence.specs.Elements.{one_of_is_row, one_of_row};
-    ghost use Rattle.dk_rows.proofs.RowLaws.{laws_by};
-    ghost use Rattle.dk_rows.specs.Meanings.{state_of};
+    ghost use Rattle.dk_meanings.proofs.RowLaws.{laws_by};
+    ghost use Rattle.dk_meanings.specs.Meanings.{state_of};
     ghost use Rattle.dk_template.specs.Templates.{form_of, role_kinds};
 
     ghost kinds = { λ row. role_kinds (one_of_row row) };

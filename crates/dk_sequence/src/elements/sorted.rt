@@ -43,8 +43,8 @@ impl Sorted {
 
 impl Row for Sorted {
     ghost use Rattle.dk_sequence.specs.Elements.{sorted_is_row, sorted_row};
-    ghost use Rattle.dk_rows.proofs.RowLaws.{laws_by};
-    ghost use Rattle.dk_rows.specs.Meanings.{state_of};
+    ghost use Rattle.dk_meanings.proofs.RowLaws.{laws_by};
+    ghost use Rattle.dk_meanings.specs.Meanings.{state_of};
     ghost use Rattle.dk_template.specs.Templates.{form_of, role_kinds};
 
     ghost kinds = { λ row. role_kinds (sorted_row row) };

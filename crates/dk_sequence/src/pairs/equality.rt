@@ -2,7 +2,7 @@
 ghost use Rattle.std.specs.Prelude.{◌≡◌, ◌∷◌, [], map};
 ghost use Rattle.std.specs.Str.{bytes_eq};
 ghost use Rattle.dk_base.specs.Values.{values_of};
-ghost use Rattle.dk_rows.specs.Relations.{are_pairwise};
+ghost use Rattle.dk_meanings.specs.Relations.{are_pairwise};
 ghost use Rattle.dk_sequence.specs.Pairs.{are_equal_by, equal_kind, equal_row};
 ghost use Rattle.dk_template.specs.Rows.{IsTuple};
 
@@ -65,8 +65,8 @@ impl EqualSequences {
 
 impl Row for EqualSequences {
     ghost use Rattle.dk_sequence.specs.Pairs.{equal_is_row, equal_row};
-    ghost use Rattle.dk_rows.proofs.RowLaws.{laws_by};
-    ghost use Rattle.dk_rows.specs.Meanings.{state_of};
+    ghost use Rattle.dk_meanings.proofs.RowLaws.{laws_by};
+    ghost use Rattle.dk_meanings.specs.Meanings.{state_of};
     ghost use Rattle.dk_template.specs.Templates.{form_of, role_kinds};
 
     ghost kinds = { λ row. role_kinds (equal_row row) };

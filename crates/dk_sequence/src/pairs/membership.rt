@@ -2,7 +2,7 @@
 ghost use Rattle.std.specs.Prelude.{◌≡◌, ◌∷◌, [], map, nat_eq};
 ghost use Rattle.std.specs.Str.{bytes_eq};
 ghost use Rattle.dk_base.specs.Values.{values_of};
-ghost use Rattle.dk_rows.specs.Relations.{is_member};
+ghost use Rattle.dk_meanings.specs.Relations.{is_member};
 ghost use Rattle.dk_sequence.specs.Pairs.{element_kind, is_member_by, member_kind, member_row};
 ghost use Rattle.dk_template.specs.Rows.{IsTuple};
 
@@ -61,8 +61,8 @@ impl Member {
 
 impl Row for Member {
     ghost use Rattle.dk_sequence.specs.Pairs.{member_is_row, member_row};
-    ghost use Rattle.dk_rows.proofs.RowLaws.{laws_by};
-    ghost use Rattle.dk_rows.specs.Meanings.{state_of};
+    ghost use Rattle.dk_meanings.proofs.RowLaws.{laws_by};
+    ghost use Rattle.dk_meanings.specs.Meanings.{state_of};
     ghost use Rattle.dk_template.specs.Templates.{form_of, role_kinds};
 
     ghost kinds = { λ row. role_kinds (member_row row) };

@@ -59,8 +59,8 @@ fn one_stays(state: &State, tuple: &[View<'_>]) -> bool
 
 impl Row for PairOffset {
     ghost use Rattle.dk_sequence.specs.Pairs.{offset_is_row, offset_row};
-    ghost use Rattle.dk_rows.proofs.RowLaws.{laws_by};
-    ghost use Rattle.dk_rows.specs.Meanings.{state_of};
+    ghost use Rattle.dk_meanings.proofs.RowLaws.{laws_by};
+    ghost use Rattle.dk_meanings.specs.Meanings.{state_of};
     ghost use Rattle.dk_template.specs.Templates.{form_of, role_kinds};
 
     ghost kinds = { λ row. role_kinds offset_row };

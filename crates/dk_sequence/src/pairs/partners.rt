@@ -4,7 +4,7 @@ ghost use Rattle.std.specs.Ordering.{int_eq};
 ghost use Rattle.dk_base.specs.Tuples.{ints_of, value_at};
 ghost use Rattle.dk_base.specs.Values.{values_of};
 ghost use Rattle.dk_base.specs.declared.kinds.Kind.TheVariants as kind;
-ghost use Rattle.dk_rows.specs.Relations.{is_reverse};
+ghost use Rattle.dk_meanings.specs.Relations.{is_reverse};
 ghost use Rattle.dk_sequence.specs.Pairs.{are_related, partners_row};
 ghost use Rattle.dk_template.specs.Rows.{IsTuple};
 
@@ -67,8 +67,8 @@ fn holds(partners: Partners, tuple: &[View<'_>]) -> bool
 
 impl Row for Partners {
     ghost use Rattle.dk_sequence.specs.Pairs.{partners_is_row, partners_row};
-    ghost use Rattle.dk_rows.proofs.RowLaws.{laws_by};
-    ghost use Rattle.dk_rows.specs.Meanings.{state_of};
+    ghost use Rattle.dk_meanings.proofs.RowLaws.{laws_by};
+    ghost use Rattle.dk_meanings.specs.Meanings.{state_of};
     ghost use Rattle.dk_template.specs.Templates.{form_of, role_kinds};
 
     ghost kinds = { λ row. role_kinds (partners_row row) };

@@ -3,7 +3,7 @@ ghost use Rattle.std.specs.Prelude.{◌≡◌, ◌∷◌, [], map, nat_eq};
 ghost use Rattle.std.specs.Ordering.{int_eq};
 ghost use Rattle.std.specs.Str.{bytes_eq};
 ghost use Rattle.dk_base.specs.Values.{values_of};
-ghost use Rattle.dk_rows.specs.Relations.{is_subset};
+ghost use Rattle.dk_meanings.specs.Relations.{is_subset};
 ghost use Rattle.dk_sequence.specs.Pairs.{is_subset_by, subset_kind, subset_row};
 ghost use Rattle.dk_template.specs.Rows.{IsTuple};
 
@@ -72,8 +72,8 @@ impl Subset {
 
 impl Row for Subset {
     ghost use Rattle.dk_sequence.specs.Pairs.{subset_is_row, subset_row};
-    ghost use Rattle.dk_rows.proofs.RowLaws.{laws_by};
-    ghost use Rattle.dk_rows.specs.Meanings.{state_of};
+    ghost use Rattle.dk_meanings.proofs.RowLaws.{laws_by};
+    ghost use Rattle.dk_meanings.specs.Meanings.{state_of};
     ghost use Rattle.dk_template.specs.Templates.{form_of, role_kinds};
 
     ghost kinds = { λ row. role_kinds (subset_row row) };

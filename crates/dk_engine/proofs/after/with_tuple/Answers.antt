@@ -2,7 +2,7 @@ use Rattle.std.specs.Prelude.{◌≡◌, [], ◌∷◌}
 use Rattle.std.proofs.Common.{ap, ◌∙◌, rules, subst, sym}
 use Rattle.std.proofs.lemmas.List.Elements.{All-cons, All-nil}
 use Rattle.dk_base.specs.Values.{values_of}
-use Rattle.dk_rows.proofs.RowLaws.{laws_of}
+use Rattle.dk_meanings.proofs.RowLaws.{laws_of}
 use Rattle.dk_template.specs.Proper.{IsProper}
 use Rattle.dk_template.specs.Rows.{IsTuple}
 use Rattle.dk_template.specs.Templates.{form_of, role_kinds}

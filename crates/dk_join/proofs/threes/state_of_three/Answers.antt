@@ -7,7 +7,7 @@ use Rattle.dk_base.specs.declared.values.Value.TheVariants as value
 use Rattle.dk_engine.proofs.Readings.{row_is}
 use Rattle.dk_engine.proofs.TextStates.{texts_state_wants}
 use Rattle.dk_engine.specs.Reading.{state_read}
-use Rattle.dk_rows.specs.Meanings.{state_of}
+use Rattle.dk_meanings.specs.Meanings.{state_of}
 use Rattle.dk_join.proofs.Breaking.{read_numbers}
 use Rattle.dk_join.specs.Numbers.{number_of}
 use Rattle.dk_join.proofs.threes.state_of_three.Goals as goal

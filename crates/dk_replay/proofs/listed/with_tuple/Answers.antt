@@ -3,7 +3,7 @@ use Rattle.std.proofs.Common.{rules, subst, sym}
 use Rattle.std.proofs.lemmas.List.Elements.{All-cons, All-nil}
 use Rattle.dk_base.specs.Values.{values_of}
 use Rattle.dk_engine.proofs.Memories.{texts_want}
-use Rattle.dk_rows.proofs.RowLaws.{laws_of}
+use Rattle.dk_meanings.proofs.RowLaws.{laws_of}
 use Rattle.dk_template.specs.Premises.{MayWantMemory}
 use Rattle.dk_template.specs.Proper.{IsProper}
 use Rattle.dk_template.specs.Rows.{IsTuple}

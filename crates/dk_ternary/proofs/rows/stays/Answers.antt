@@ -1,6 +1,6 @@
 use Rattle.std.proofs.Common.{rules, ◌≡◌}
 use Rattle.dk_base.specs.Values.{values_of}
-use Rattle.dk_rows.proofs.Staying.{stays_by_number}
+use Rattle.dk_meanings.proofs.Staying.{stays_by_number}
 use Rattle.dk_ternary.proofs.rows.stays.Goals as goal
 
 pub returns-in-24 : goal.returns-in-24

@@ -5,7 +5,7 @@ use Rattle.dk_forms.specs.Code.{code_of}
 use Rattle.dk_forms.specs.Ints.{ints_of}
 use Rattle.dk_forms.specs.Texts.{texts_of}
 use Rattle.dk_forms.specs.Truth.{truth_of}
-use Rattle.dk_rows.specs.Meanings.{state_of}
+use Rattle.dk_meanings.specs.Meanings.{state_of}
 use Rattle.dk_template.proofs.Staying.{proper_by, stays_as}
 use Rattle.dk_template.specs.Templates.{form_of}
 use Rattle.dk_unary.proofs.Points.{bools_of_one, hashes_of_one, ints_of_one, one_of_str}

@@ -4,7 +4,7 @@ use Rattle.std.proofs.lemmas.Result.{IfOk-weaker}
 use Rattle.dk_base.specs.Values.{values_of}
 use Rattle.dk_forms.specs.declared.states.State.TheVariants.{Ints, Truth, Code}
 use Rattle.dk_forms.specs.Texts.{texts_of}
-use Rattle.dk_rows.specs.Meanings.{state_of}
+use Rattle.dk_meanings.specs.Meanings.{state_of}
 use Rattle.dk_unary.proofs.Points.{one_of_bool, one_of_hash, one_of_int, one_of_str}
 use Rattle.dk_unary.proofs.Takes.{one_of_kind, one_of_takes}
 use Rattle.dk_unary.specs.Rows.{one_of_row}

@@ -1,6 +1,6 @@
 use Rattle.std.proofs.Common.{rules, ◌≡◌, arith}
 use Rattle.dk_base.specs.Values.{values_of}
-use Rattle.dk_rows.proofs.Staying.{stays_by_number}
+use Rattle.dk_meanings.proofs.Staying.{stays_by_number}
 use Rattle.dk_unary.proofs.rows.stays.Goals as goal
 
 pub returns-in-1 : goal.returns-in-1

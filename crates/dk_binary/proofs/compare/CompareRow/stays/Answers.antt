@@ -3,7 +3,7 @@ use Rattle.dk_base.specs.Values.{values_of}
 use Rattle.dk_binary.proofs.Relating.{compare_relation}
 use Rattle.dk_binary.proofs.Takes.{compare_form, compare_takes}
 use Rattle.dk_binary.specs.Rows.{compare_is_row, compare_row}
-use Rattle.dk_rows.proofs.RowLaws.{plain_row_of_one}
+use Rattle.dk_meanings.proofs.RowLaws.{plain_row_of_one}
 use Rattle.dk_template.proofs.Staying.{proper_by, stays_as}
 use Rattle.dk_binary.proofs.compare.CompareRow.stays.Goals as goal
 

@@ -2,7 +2,7 @@ use Rattle.std.proofs.Common.{◌∙◌}
 use Rattle.dk_base.specs.Values.{values_of}
 use Rattle.dk_binary.proofs.Takes.{equality_form}
 use Rattle.dk_binary.specs.Rows.{equality_is_row, equality_row}
-use Rattle.dk_rows.proofs.RowLaws.{plain_row_of_one}
+use Rattle.dk_meanings.proofs.RowLaws.{plain_row_of_one}
 use Rattle.dk_binary.proofs.equality.EqualityRow.point.Goals as goal
 
 pub returns-clause-state : goal.returns-clause-state

@@ -6,7 +6,7 @@ use Rattle.dk_fits.proofs.Whole.{is_tuple}
 use Rattle.dk_fits.specs.Fits.{is_whole, tuple_in}
 use Rattle.dk_fits.specs.Laws.{IsSample}
 use Rattle.dk_forms.specs.declared.states.State.{State}
-use Rattle.dk_rows.specs.Meanings.{state_of}
+use Rattle.dk_meanings.specs.Meanings.{state_of}
 use Rattle.dk_template.specs.Joins.{joined}
 use Rattle.dk_template.specs.Rows.{IsTuple}
 use Rattle.dk_template.specs.Templates.{form_of, role_kinds}

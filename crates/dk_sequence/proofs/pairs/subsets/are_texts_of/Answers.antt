@@ -3,7 +3,7 @@ use Rattle.std.specs.List.{list_all}
 use Rattle.std.specs.Str.{bytes_eq}
 use Rattle.std.proofs.lemmas.Iterator.{YieldsList-from_slice}
 use Rattle.std.proofs.lemmas.Iterator.Search.{all_from_yields_List}
-use Rattle.dk_rows.specs.Relations.{is_member}
+use Rattle.dk_meanings.specs.Relations.{is_member}
 use Rattle.dk_sequence.proofs.PairRows.Scans.{all_of_parts}
 use Rattle.dk_sequence.proofs.pairs.subsets.are_texts_of.Goals as goal
 

@@ -1,6 +1,6 @@
 use Rattle.std.proofs.Common.{sym, ◌∙◌}
 use Rattle.dk_base.specs.Values.{values_of}
-use Rattle.dk_rows.proofs.RowLaws.{plain_row_of_one}
+use Rattle.dk_meanings.proofs.RowLaws.{plain_row_of_one}
 use Rattle.dk_ternary.proofs.Relating.{operation_relation}
 use Rattle.dk_ternary.proofs.Takes.{operation_form, operation_takes}
 use Rattle.dk_ternary.specs.Rows.{operation_is_row, operation_row}

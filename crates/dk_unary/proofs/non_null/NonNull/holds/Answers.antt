@@ -1,8 +1,8 @@
 use Rattle.std.proofs.Common.{rules, FitsSigned, w64, Some, ap, sym, ◌∙◌}
 use Rattle.std.proofs.lemmas.Int.{to_z-of_z}
 use Rattle.dk_base.specs.Values.{values_of}
-use Rattle.dk_rows.specs.Meanings.{relation_of}
-use Rattle.dk_rows.specs.Relations.{is_nonnull, is_nonzero, is_nonzero_hash}
+use Rattle.dk_meanings.specs.Meanings.{relation_of}
+use Rattle.dk_meanings.specs.Relations.{is_nonnull, is_nonzero, is_nonzero_hash}
 use Rattle.dk_unary.proofs.Points.{non_null_hash, non_null_int, non_null_str}
 use Rattle.dk_unary.proofs.Takes.{non_null_kind, non_null_takes}
 use Rattle.dk_unary.specs.Rows.{non_null_row}

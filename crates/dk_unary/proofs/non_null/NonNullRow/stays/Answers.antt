@@ -1,6 +1,6 @@
 use Rattle.std.proofs.Common.{sym}
 use Rattle.dk_base.specs.Values.{values_of}
-use Rattle.dk_rows.proofs.RowLaws.{plain_row_of_one}
+use Rattle.dk_meanings.proofs.RowLaws.{plain_row_of_one}
 use Rattle.dk_template.proofs.Staying.{proper_by, stays_as}
 use Rattle.dk_unary.proofs.Takes.{non_null_form}
 use Rattle.dk_unary.specs.Rows.{non_null_is_row, non_null_row}

@@ -1,6 +1,6 @@
 use Rattle.std.proofs.Common.{sym, ◌∙◌}
 use Rattle.dk_base.specs.Values.{values_of}
-use Rattle.dk_rows.proofs.RowLaws.{plain_row_of_one}
+use Rattle.dk_meanings.proofs.RowLaws.{plain_row_of_one}
 use Rattle.dk_sequence.proofs.ElementRows.Relating.{compare_relation}
 use Rattle.dk_sequence.proofs.ElementRows.Takes.{compare_form, compare_takes}
 use Rattle.dk_sequence.specs.Elements.{compare_is_row, compare_row}

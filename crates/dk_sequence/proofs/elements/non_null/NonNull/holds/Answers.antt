@@ -5,7 +5,7 @@ use Rattle.std.proofs.Common.{ap, sym, ◌∙◌}
 use Rattle.std.proofs.lemmas.List.Folds.{list_all-map}
 use Rattle.dk_base.specs.Tuples.{value_at}
 use Rattle.dk_base.specs.Values.{values_of}
-use Rattle.dk_rows.specs.Relations.{is_nonnull}
+use Rattle.dk_meanings.specs.Relations.{is_nonnull}
 use Rattle.dk_sequence.specs.Elements.{has_no_null}
 use Rattle.dk_sequence.proofs.elements.non_null.NonNull.holds.Goals as goal
 

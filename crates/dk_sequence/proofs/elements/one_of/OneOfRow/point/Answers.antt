@@ -1,7 +1,7 @@
 use Rattle.std.proofs.Common.{◌≡◌, [], ◌∷◌, ap, sym, ◌∙◌}
 use Rattle.std.proofs.lemmas.Result.{IfOk-weaker, on_err_weaker}
 use Rattle.dk_base.specs.Values.{values_of}
-use Rattle.dk_rows.specs.Meanings.{state_of}
+use Rattle.dk_meanings.specs.Meanings.{state_of}
 use Rattle.dk_sequence.proofs.ElementRows.Relating.{one_of_elements}
 use Rattle.dk_sequence.proofs.ElementRows.Takes.{one_of_strings, one_of_takes}
 use Rattle.dk_sequence.specs.Elements.{one_of_row}

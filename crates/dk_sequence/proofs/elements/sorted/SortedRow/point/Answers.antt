@@ -1,6 +1,6 @@
 use Rattle.std.proofs.Common.{sym, ◌∙◌}
 use Rattle.dk_base.specs.Values.{values_of}
-use Rattle.dk_rows.proofs.RowLaws.{plain_row_of_one}
+use Rattle.dk_meanings.proofs.RowLaws.{plain_row_of_one}
 use Rattle.dk_sequence.proofs.ElementRows.Relating.{sorted_relation}
 use Rattle.dk_sequence.proofs.ElementRows.Takes.{sorted_form, sorted_takes}
 use Rattle.dk_sequence.specs.Elements.{sorted_is_row, sorted_row}

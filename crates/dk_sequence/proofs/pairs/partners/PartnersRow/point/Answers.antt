@@ -1,6 +1,6 @@
 use Rattle.std.proofs.Common.{sym, ◌∙◌}
 use Rattle.dk_base.specs.Values.{values_of}
-use Rattle.dk_rows.proofs.RowLaws.{plain_row_of_one}
+use Rattle.dk_meanings.proofs.RowLaws.{plain_row_of_one}
 use Rattle.dk_sequence.proofs.PairRows.Relating.{partners_relation}
 use Rattle.dk_sequence.proofs.PairRows.Takes.{partners_form, partners_takes}
 use Rattle.dk_sequence.specs.Pairs.{partners_is_row, partners_row}

@@ -1,6 +1,6 @@
 use Rattle.std.proofs.Common.{sym, ◌∙◌}
 use Rattle.dk_base.specs.Values.{values_of}
-use Rattle.dk_rows.proofs.RowLaws.{plain_row_of_one}
+use Rattle.dk_meanings.proofs.RowLaws.{plain_row_of_one}
 use Rattle.dk_sequence.proofs.PairRows.Relating.{subset_relation}
 use Rattle.dk_sequence.proofs.PairRows.Takes.{subset_form, subset_takes}
 use Rattle.dk_sequence.specs.Pairs.{subset_is_row, subset_row}

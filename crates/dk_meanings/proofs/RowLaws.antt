@@ -6,11 +6,11 @@ use Rattle.std.proofs.lemmas.Bool.{leb-true}
 use Rattle.dk_base.specs.declared.kinds.Kind.{Kind}
 use Rattle.dk_base.specs.declared.values.Value.{Value}
 use Rattle.dk_forms.specs.Plain.{plain_of}
-use Rattle.dk_rows.proofs.MeaningLaws.{meaning_laws, relation_state}
-use Rattle.dk_rows.proofs.Tables.{Agrees, agrees}
-use Rattle.dk_rows.specs.Laws.{PlainRowsStateTheirRelation, RowsKeepTheirLaws, is_row}
-use Rattle.dk_rows.specs.Meaning.{state_by}
-use Rattle.dk_rows.specs.Meanings.{meaning_of, relation_of, state_of}
+use Rattle.dk_meanings.proofs.MeaningLaws.{meaning_laws, relation_state}
+use Rattle.dk_meanings.proofs.Tables.{Agrees, agrees}
+use Rattle.dk_meanings.specs.Laws.{PlainRowsStateTheirRelation, RowsKeepTheirLaws, is_row}
+use Rattle.dk_meanings.specs.Meaning.{state_by}
+use Rattle.dk_meanings.specs.Meanings.{meaning_of, relation_of, state_of}
 use Rattle.dk_template.specs.Rows.{RowLaws}
 use Rattle.dk_template.specs.Templates.{IsRow, form_of, is_plain, role_kinds, template_of}
 use Rattle.dk_template.specs.declared.grammar.RowId.{RowId}

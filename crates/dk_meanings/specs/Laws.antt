@@ -2,7 +2,7 @@
 use Rattle.std.specs.Prelude.{◌≡◌, Bool, ◌&&◌, List, map, nat_le}
 use Rattle.dk_base.specs.declared.values.Value.{Value}
 use Rattle.dk_forms.specs.Plain.{plain_of}
-use Rattle.dk_rows.specs.Meanings.{relation_of, state_of}
+use Rattle.dk_meanings.specs.Meanings.{relation_of, state_of}
 use Rattle.dk_template.specs.Rows.{RowLaws}
 use Rattle.dk_template.specs.Templates.{IsRow, form_of, role_kinds}
 use Rattle.dk_template.specs.declared.grammar.RowId.{RowId}

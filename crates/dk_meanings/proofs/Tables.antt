@@ -8,10 +8,10 @@ use Rattle.dk_base.specs.declared.kinds.Kind.TheVariants as kind
 use Rattle.dk_base.specs.declared.values.Value.{Value}
 use Rattle.dk_base.specs.declared.values.Value.TheVariants as value
 use Rattle.dk_forms.specs.Offset.{differences}
-use Rattle.dk_rows.proofs.Bounds.{IsSmall, IsString, numbers_of, small_differences, string_of, strings_of}
-use Rattle.dk_rows.proofs.MeaningLaws.{IsBounded}
-use Rattle.dk_rows.specs.Meaning.{Meaning, form_by}
-use Rattle.dk_rows.specs.Meanings.{elements, itself, meanings, of_one, of_two}
+use Rattle.dk_meanings.proofs.Bounds.{IsSmall, IsString, numbers_of, small_differences, string_of, strings_of}
+use Rattle.dk_meanings.proofs.MeaningLaws.{IsBounded}
+use Rattle.dk_meanings.specs.Meaning.{Meaning, form_by}
+use Rattle.dk_meanings.specs.Meanings.{elements, itself, meanings, of_one, of_two}
 use Rattle.dk_template.specs.Rows.{IsTuple}
 use Rattle.dk_template.specs.Templates.{kind_of, roles_of, rows}
 use Rattle.dk_template.specs.declared.templates.Template.{Template}

@@ -16,8 +16,8 @@ use Rattle.dk_forms.proofs.Summaries.{along, along_map}
 use Rattle.dk_forms.proofs.TextsLaws.{texts_summary}
 use Rattle.dk_forms.proofs.TruthLaws.{truth_summary}
 use Rattle.dk_forms.specs.Plain.{plain_of}
-use Rattle.dk_rows.proofs.Bounds.{All-flat_map, IsSmall, IsString}
-use Rattle.dk_rows.specs.Meaning.{Meaning, relation, least, greatest, ints, truth, code, texts, modulus, line, plane, offset, form_by, relation_by, state_by}
+use Rattle.dk_meanings.proofs.Bounds.{All-flat_map, IsSmall, IsString}
+use Rattle.dk_meanings.specs.Meaning.{Meaning, relation, least, greatest, ints, truth, code, texts, modulus, line, plane, offset, form_by, relation_by, state_by}
 use Rattle.dk_template.proofs.ProperStates.{offset_of_differences, proper_laws, texts_of_strings}
 use Rattle.dk_template.proofs.RowLaws.{row_laws}
 use Rattle.dk_template.specs.Rows.{IsTuple, RowLaws}

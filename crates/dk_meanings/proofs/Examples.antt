@@ -10,7 +10,7 @@ use Rattle.dk_forms.specs.Modulus.{class, remainder}
 use Rattle.dk_forms.specs.Plane.{plane_from, plane_through}
 use Rattle.dk_forms.specs.declared.states.State.{State}
 use Rattle.dk_forms.specs.declared.states.State.TheVariants.{Empty, Broken, Holds, Least, Greatest, Ints, Modulus, Spot, Straight, Span, Plane, Offset}
-use Rattle.dk_rows.specs.Meanings.{meanings, state_of}
+use Rattle.dk_meanings.specs.Meanings.{meanings, state_of}
 
 -- the state of a row, by its number
 abbrev row : ℕ → List (List Value) → State

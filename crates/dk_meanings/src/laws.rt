@@ -1,5 +1,5 @@
 //! What the definitions of the rows come to.
-ghost use Rattle.dk_rows.specs.Laws.{PlainRowsStateTheirRelation, RowsKeepTheirLaws};
+ghost use Rattle.dk_meanings.specs.Laws.{PlainRowsStateTheirRelation, RowsKeepTheirLaws};
 
 /// Each row of the table keeps the laws of a row: the state of no tuples is Empty, that of two lists together is the join of theirs,
 /// it depends on the set of the tuples alone, and that of tuples of the row's kinds is proper.

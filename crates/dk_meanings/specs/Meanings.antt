@@ -8,8 +8,8 @@ use Rattle.dk_base.specs.Tuples.{bool_of, bools_of, hash_of, hashes_of, int_of, 
 use Rattle.dk_base.specs.declared.values.Value.{Value}
 use Rattle.dk_forms.specs.Offset.{differences}
 use Rattle.dk_forms.specs.declared.states.State.{State}
-use Rattle.dk_rows.specs.Meaning.{Meaning, relation, least, greatest, ints, truth, code, texts, modulus, line, plane, offset, relation_by, state_by}
-use Rattle.dk_rows.specs.Relations.{all_relate, are_pairwise, are_sorted, differ, int_ge, int_gt, is_bitwise, is_difference, is_gcd, is_maximum, is_member, is_minimum, is_multiple, is_nonnull, is_nonzero, is_nonzero_hash, is_product, is_quotient, is_remainder, is_reverse, is_square, is_subset, is_sum}
+use Rattle.dk_meanings.specs.Meaning.{Meaning, relation, least, greatest, ints, truth, code, texts, modulus, line, plane, offset, relation_by, state_by}
+use Rattle.dk_meanings.specs.Relations.{all_relate, are_pairwise, are_sorted, differ, int_ge, int_gt, is_bitwise, is_difference, is_gcd, is_maximum, is_member, is_minimum, is_multiple, is_nonnull, is_nonzero, is_nonzero_hash, is_product, is_quotient, is_remainder, is_reverse, is_square, is_subset, is_sum}
 use Rattle.dk_template.specs.declared.grammar.RowId.{RowId}
 
 -- ---- the values of a tuple, by their roles

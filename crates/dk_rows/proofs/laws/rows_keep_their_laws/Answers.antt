@@ -1,5 +1,0 @@
-use Rattle.dk_rows.proofs.RowLaws.{laws_of}
-use Rattle.dk_rows.proofs.laws.rows_keep_their_laws.Goals as goal
-
-pub returns : goal.returns
-returns c = laws_of
