@@ -12,8 +12,8 @@ use Rattle.dk_driver.specs.Consuming.{IsBehind, Record, SamplesMore, Tells, Told
 use Rattle.dk_events.specs.Telling.{PointsGoOn}
 use Rattle.dk_events.specs.declared.event.Event.{Event}
 use Rattle.dk_events.specs.declared.event.Event.TheVariants as event
-use Rattle.dk_fits.specs.Laws.{IsSample}
 use Rattle.dk_hierarchy.specs.Samples.{all_vars_of}
+use Rattle.dk_instances.specs.Laws.{IsSample}
 use Rattle.dk_points.specs.Table.{Point}
 use Rattle.dk_trace.specs.Fitting.{FitKinds}
 use Rattle.dk_verdicts.proofs.Growth.{kept_up_on, stands_on}

@@ -9,7 +9,7 @@ use Rattle.dk_base.specs.declared.values.Value.{Value}
 use Rattle.dk_derive.proofs.Typed.{values_of_kinds}
 use Rattle.dk_derive.specs.Laws.{base_of, var_kinds}
 use Rattle.dk_derive.specs.Values.{values_by_form}
-use Rattle.dk_fits.specs.Laws.{IsSample}
+use Rattle.dk_instances.specs.Laws.{IsSample}
 
 zipped : (vars : List VarInfo) (values : List Value) → AllZip IsOfKind (var_kinds vars) values → AllZip (λ (v : VarInfo) x. IsOfKind v.kind x) vars values
 zipped [] [] h = tt

@@ -28,8 +28,8 @@ use Rattle.dk_decl.specs.declared.header.Header.{Header}
 use Rattle.dk_derive.proofs.Written.{back_written, element_written, front_written, value_written}
 use Rattle.dk_derive.specs.Laws.{all_vars_of, base_of, var_kinds}
 use Rattle.dk_derive.specs.Values.{derived_value, next_place, number_of_elements, place, size, value_by_form, values_by_form}
-use Rattle.dk_fits.specs.Laws.{IsSample}
 use Rattle.dk_hierarchy.specs.Samples.{own_samples_of}
+use Rattle.dk_instances.specs.Laws.{IsSample}
 use Rattle.dk_points.specs.Declaring.{at_line, declared}
 use Rattle.dk_points.specs.Table.{Point, decl_at, decl_if_declared}
 use Rattle.dk_points.specs.declared.declared.Declared.{Declared}

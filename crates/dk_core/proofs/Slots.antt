@@ -12,9 +12,9 @@ use Rattle.dk_classes.proofs.OwnLeaders.{leads_from_own}
 use Rattle.dk_engine.specs.Exact.{AreOfPoint, AreSamples, IsKeptOf, IsSlot}
 use Rattle.dk_engine.specs.declared.kept.Kept.{Kept}
 use Rattle.dk_engine.specs.declared.slot.Slot.{Slot}
-use Rattle.dk_fits.proofs.Whole.{are_tuples, fit_is_proper}
-use Rattle.dk_fits.specs.Fits.{fit, tuples_of}
 use Rattle.dk_forms.specs.declared.states.State.TheVariants.{Broken}
+use Rattle.dk_instances.proofs.Whole.{are_tuples, fit_is_proper}
+use Rattle.dk_instances.specs.Fits.{fit, tuples_of}
 use Rattle.dk_meanings.specs.Meaning.{Meaning, form_by, relation, state_by}
 use Rattle.dk_meanings.specs.Meanings.{meaning_of, state_of}
 use Rattle.dk_state.proofs.CompactParts.{kept_exact}

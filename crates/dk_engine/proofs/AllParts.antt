@@ -12,7 +12,7 @@ use Rattle.dk_engine.proofs.Standing.{IsOld, all_front, old_each, untouched_by_o
 use Rattle.dk_engine.proofs.Unchanging.{first_sample_has_no_slots}
 use Rattle.dk_engine.specs.Step.{slot_vars}
 use Rattle.dk_engine.specs.StepLaws.{FedPartsAreKept, FirstPartsAreKept, FreedPremisesAreUntouched, PremisesAskTheirSlots, ReadingTells}
-use Rattle.dk_fits.specs.Laws.{IsSample}
+use Rattle.dk_instances.specs.Laws.{IsSample}
 
 pub reading_tells : ReadingTells
 reading_tells grammar infos samples sample kept now step point =

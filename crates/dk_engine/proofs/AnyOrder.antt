@@ -12,10 +12,10 @@ use Rattle.dk_classes.specs.Classes.{InClass, var_kinds}
 use Rattle.dk_classes.specs.Leaders.{leader_at, own_leaders, var}
 use Rattle.dk_constants.specs.Constants.{HasAlways}
 use Rattle.dk_constants.specs.Known.{Entries}
-use Rattle.dk_fits.proofs.Fitting.{fit_of_set}
-use Rattle.dk_fits.proofs.Members.{contained, is_in}
-use Rattle.dk_fits.specs.Fits.{fit}
 use Rattle.dk_forms.specs.Laws.{SameSet}
+use Rattle.dk_instances.proofs.Fitting.{fit_of_set}
+use Rattle.dk_instances.proofs.Members.{contained, is_in}
+use Rattle.dk_instances.specs.Fits.{fit}
 use Rattle.dk_presence.specs.Patterns.{capped, patterns_of, present_in, same_vars}
 use Rattle.dk_samples.specs.Samples.{value_in}
 use Rattle.dk_suppress.proofs.Asking.{suppressed_alike}

@@ -11,7 +11,6 @@ use Rattle.std.proofs.lemmas.Int.{clamps, ints as int_rules}
 use Rattle.dk_base.specs.Tuples.{int_of, ints_of, value_at}
 use Rattle.dk_base.specs.declared.kinds.VarId.{VarId}
 use Rattle.dk_base.specs.declared.values.Value.{Value}
-use Rattle.dk_fits.specs.Fits.{fit, is_whole, tuple_in, tuples_of}
 use Rattle.dk_forms.specs.Distinct.{by_order, distinct, put}
 use Rattle.dk_forms.specs.Greatest.{greatest_of, greatest_join, greatest_known, greatest_state}
 use Rattle.dk_forms.specs.Ints.{ints_of as ints_state_of, ints_state}
@@ -20,6 +19,7 @@ use Rattle.dk_forms.specs.Least.{least_of, least_join, least_known, least_state}
 use Rattle.dk_forms.specs.Plain.{plain_join}
 use Rattle.dk_forms.specs.declared.states.State.{State}
 use Rattle.dk_forms.specs.declared.states.State.TheVariants as state
+use Rattle.dk_instances.specs.Fits.{fit, is_whole, tuple_in, tuples_of}
 use Rattle.dk_meanings.proofs.RowLaws.{laws_of, plain_rows}
 use Rattle.dk_meanings.specs.Meanings.{elements, itself, meanings, of_one, relation_of, state_of}
 use Rattle.dk_suppress.proofs.Saying.{Says, plain_form, premise_says}

@@ -6,11 +6,11 @@ use Rattle.dk_base.specs.Tuples.{int_of, value_at}
 use Rattle.dk_base.specs.declared.kinds.VarId.{VarId}
 use Rattle.dk_base.specs.declared.values.Value.{Value}
 use Rattle.dk_base.specs.declared.values.Value.TheVariants as value
-use Rattle.dk_fits.specs.Fits.{is_whole, tuple_in}
 use Rattle.dk_forms.specs.Known.{Known, both, broken, fact, nothing}
 use Rattle.dk_forms.specs.Plain.{plain_known, plain_state}
 use Rattle.dk_forms.specs.declared.states.State.{State}
 use Rattle.dk_forms.specs.declared.states.State.TheVariants.{Broken, Holds}
+use Rattle.dk_instances.specs.Fits.{is_whole, tuple_in}
 use Rattle.dk_meanings.proofs.RowLaws.{plain_row_of_one}
 use Rattle.dk_meanings.specs.Meanings.{meanings, relation_of, state_of}
 use Rattle.dk_samples.specs.Samples.{value_in}

@@ -7,7 +7,7 @@ use Rattle.std.proofs.lemmas.List.Elements.{All-head, All-tail}
 use Rattle.std.proofs.lemmas.List.Folds.{Any-from_list_any}
 use Rattle.dk_base.specs.declared.kinds.VarId.{VarId}
 use Rattle.dk_classes.specs.Leaders.{own_leaders}
-use Rattle.dk_fits.proofs.Members.{contained, in_filter, in_flat, in_map, is_in}
+use Rattle.dk_instances.proofs.Members.{contained, in_filter, in_flat, in_map, is_in}
 use Rattle.dk_forms.specs.Laws.{IsIn}
 use Rattle.dk_template.specs.Premises.{at_role, roles_read}
 use Rattle.dk_template.specs.declared.answers.Premise.{Premise}

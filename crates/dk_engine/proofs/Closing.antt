@@ -10,9 +10,9 @@ use Rattle.dk_base.specs.declared.kinds.VarId.{VarId}
 use Rattle.dk_base.specs.declared.kinds.VarInfo.{VarInfo}
 use Rattle.dk_base.specs.declared.values.Value.{Value}
 use Rattle.dk_classes.specs.Leaders.{own_leaders}
-use Rattle.dk_fits.proofs.Members.{contained, in_filter, is_in, of_filter, of_map}
-use Rattle.dk_fits.specs.Fits.{fit, is_whole, premise_holds, tuple_in}
-use Rattle.dk_fits.proofs.Pushing.{fit_push}
+use Rattle.dk_instances.proofs.Members.{contained, in_filter, is_in, of_filter, of_map}
+use Rattle.dk_instances.specs.Fits.{fit, is_whole, premise_holds, tuple_in}
+use Rattle.dk_instances.proofs.Pushing.{fit_push}
 use Rattle.dk_forms.specs.Laws.{IsIn}
 use Rattle.dk_forms.specs.declared.states.State.{State}
 use Rattle.dk_forms.specs.declared.states.State.TheVariants.{Broken, Empty}

@@ -3,7 +3,7 @@ use Rattle.std.specs.Prelude.{List, [], ◌∷◌}
 use Rattle.std.proofs.Common.{ap, arith, inl, inr}
 use Rattle.dk_base.specs.declared.kinds.VarId.{VarId}
 use Rattle.dk_samples.proofs.Members.{same_members}
-use Rattle.dk_fits.specs.Instances.{ComesBefore, Precedes}
+use Rattle.dk_instances.specs.Instances.{ComesBefore, Precedes}
 use Rattle.dk_template.specs.declared.grammar.RowId.{RowId}
 use Rattle.dk_engine.specs.Exact.{SlotBefore}
 use Rattle.dk_engine.specs.Laws.{SlotsAreDetermined}

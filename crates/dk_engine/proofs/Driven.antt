@@ -14,11 +14,11 @@ use Rattle.dk_base.specs.Tuples.{int_of}
 use Rattle.dk_base.specs.declared.kinds.VarId.{VarId}
 use Rattle.dk_base.specs.declared.values.Value.{Value}
 use Rattle.dk_base.specs.declared.values.Value.TheVariants as value
-use Rattle.dk_fits.specs.Fits.{is_whole, tuple_in}
 use Rattle.dk_forms.proofs.PlaneFacts.{point_of_limit}
 use Rattle.dk_forms.specs.Plane.{IsSpan, are_aligned, in_space, is_before, plane_join, plane_of}
 use Rattle.dk_forms.specs.declared.states.State.{State}
 use Rattle.dk_forms.specs.declared.states.State.TheVariants.{Span}
+use Rattle.dk_instances.specs.Fits.{is_whole, tuple_in}
 use Rattle.dk_samples.specs.Samples.{is_present, value_in}
 use Rattle.dk_ternary.specs.Rows.{linear_ternary_row}
 use Rattle.dk_engine.proofs.Bounding.{of_missing}

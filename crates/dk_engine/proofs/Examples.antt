@@ -4,10 +4,10 @@ use Rattle.std.specs.List.{dedup, list_any}
 use Rattle.dk_base.specs.declared.kinds.VarId.{VarId}
 use Rattle.dk_base.specs.declared.values.Value.{Value}
 use Rattle.dk_base.specs.declared.values.Value.TheVariants as value
-use Rattle.dk_fits.specs.Fits.{fit}
 use Rattle.dk_forms.specs.Distinct.{put}
 use Rattle.dk_forms.specs.declared.states.State.{State}
 use Rattle.dk_forms.specs.declared.states.State.TheVariants.{Empty, Broken, Holds}
+use Rattle.dk_instances.specs.Fits.{fit}
 use Rattle.dk_meanings.specs.Meanings.{meanings, state_of}
 use Rattle.dk_suppress.specs.Rules.{Rule, asks, is_suppressed, holds_of_one, holds_of_two, rules}
 use Rattle.dk_suppress.specs.Soundness.{fit_of}

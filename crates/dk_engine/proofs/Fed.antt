@@ -14,7 +14,7 @@ use Rattle.dk_classes.specs.Classes.{AreLeaders, var_kinds}
 use Rattle.dk_classes.specs.Leaders.{own_leaders}
 use Rattle.dk_constants.proofs.Feeding.{constants_fed, constants_first, ended_fed}
 use Rattle.dk_constants.specs.Constants.{AreConstants, AreFed}
-use Rattle.dk_fits.specs.Laws.{IsSample}
+use Rattle.dk_instances.specs.Laws.{IsSample}
 use Rattle.dk_presence.proofs.Adding.{counted_added}
 use Rattle.dk_presence.proofs.Placing.{held_added}
 use Rattle.dk_presence.proofs.Refining.{are_refined, counted_now, led_has}

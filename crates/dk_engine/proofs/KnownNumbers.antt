@@ -10,7 +10,7 @@ use Rattle.dk_base.specs.Tuples.{int_of, value_at}
 use Rattle.dk_base.specs.declared.kinds.VarId.{VarId}
 use Rattle.dk_base.specs.declared.values.Value.{Value}
 use Rattle.dk_base.specs.declared.values.Value.TheVariants as value
-use Rattle.dk_fits.specs.Fits.{is_whole, tuple_in}
+use Rattle.dk_instances.specs.Fits.{is_whole, tuple_in}
 use Rattle.dk_forms.specs.declared.states.State.{State}
 use Rattle.dk_forms.specs.Line.{line_join, line_of}
 use Rattle.dk_forms.specs.declared.states.State.TheVariants.{Greatest, Holds, Least}

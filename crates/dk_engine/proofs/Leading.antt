@@ -15,7 +15,7 @@ use Rattle.dk_classes.proofs.OfKind.{kind_read}
 use Rattle.dk_classes.proofs.OwnLeaders.{own_from_leads}
 use Rattle.dk_classes.specs.Classes.{AreLeaders, var_kinds}
 use Rattle.dk_classes.specs.Leaders.{own_leaders}
-use Rattle.dk_fits.specs.Laws.{AreAlike}
+use Rattle.dk_instances.specs.Laws.{AreAlike}
 use Rattle.dk_template.specs.Admitted.{admits, same_kind, suits}
 use Rattle.dk_template.specs.Premises.{AreThere}
 use Rattle.dk_template.specs.Templates.{is_base, kind_of, roles_of, template_of}

@@ -10,7 +10,7 @@ use Rattle.std.proofs.lemmas.List.Sums.{AllPass-from_list_all}
 use Rattle.dk_base.specs.Spelling.{IsWritten}
 use Rattle.dk_base.specs.declared.kinds.VarId.{VarId}
 use Rattle.dk_base.specs.declared.values.Value.{Value}
-use Rattle.dk_fits.specs.Fits.{fit, is_whole, premise_holds, tuple_in, tuples_of}
+use Rattle.dk_instances.specs.Fits.{fit, is_whole, premise_holds, tuple_in, tuples_of}
 use Rattle.dk_forms.specs.declared.states.State.{State}
 use Rattle.dk_forms.specs.declared.states.State.TheVariants.{Broken, Empty}
 use Rattle.dk_samples.specs.Samples.{is_present, value_in}

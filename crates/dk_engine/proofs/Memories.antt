@@ -12,8 +12,8 @@ use Rattle.dk_base.specs.declared.kinds.Kind.{Kind}
 use Rattle.dk_base.specs.declared.kinds.Kind.TheVariants as kind
 use Rattle.dk_base.specs.declared.values.Value.{Value}
 use Rattle.dk_base.specs.declared.values.Value.TheVariants as value
-use Rattle.dk_fits.proofs.Members.{in_range}
-use Rattle.dk_fits.proofs.Alike.{pairwise_tells}
+use Rattle.dk_instances.proofs.Members.{in_range}
+use Rattle.dk_instances.proofs.Alike.{pairwise_tells}
 use Rattle.dk_forms.specs.Laws.{IsIn}
 use Rattle.dk_forms.specs.Plain.{plain_of}
 use Rattle.dk_forms.specs.declared.states.State.TheVariants as state

@@ -9,10 +9,10 @@ use Rattle.std.proofs.lemmas.List.Elements.{All-contains, Contains-get_or}
 use Rattle.std.proofs.lemmas.List.Sorted.{All-permutation, Contains-permutation, IsPermutation-sym}
 use Rattle.dk_base.specs.declared.kinds.VarId.{VarId}
 use Rattle.dk_classes.specs.Leaders.{var}
-use Rattle.dk_fits.proofs.Ascending.{Ascend, ascend_from_pairs, pairs}
-use Rattle.dk_fits.proofs.Members.{contained, is_in}
-use Rattle.dk_fits.specs.Instances.{Precedes}
 use Rattle.dk_forms.specs.Laws.{IsIn}
+use Rattle.dk_instances.proofs.Ascending.{Ascend, ascend_from_pairs, pairs}
+use Rattle.dk_instances.proofs.Members.{contained, is_in}
+use Rattle.dk_instances.specs.Instances.{Precedes}
 use Rattle.dk_template.specs.Templates.{arity_of}
 use Rattle.dk_engine.specs.Exact.{SlotBefore}
 use Rattle.dk_engine.specs.Merged.{AreTogether, HasNumber, slot_number, var_bound, var_in}

@@ -1,6 +1,6 @@
 -- What is read with one sample more.
 use Rattle.std.proofs.Common.{ap, ◌∙◌, sym}
-use Rattle.dk_fits.proofs.Pushing.{fit_push}
+use Rattle.dk_instances.proofs.Pushing.{fit_push}
 use Rattle.dk_engine.proofs.Readings.{reading_is_fit, row_is}
 use Rattle.dk_engine.specs.Feeding.{read_after, with_sample}
 use Rattle.dk_engine.specs.Laws.{ReadAfterIsFit}

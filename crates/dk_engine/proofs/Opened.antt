@@ -10,11 +10,11 @@ use Rattle.dk_base.specs.declared.kinds.VarInfo.{VarInfo}
 use Rattle.dk_base.specs.declared.values.Value.{Value}
 use Rattle.dk_classes.proofs.OwnLeaders.{leads_from_own, own_ascend}
 use Rattle.dk_classes.specs.Leaders.{own_leaders}
-use Rattle.dk_fits.proofs.Listing.{row_in, row_of_grammar}
-use Rattle.dk_fits.proofs.Members.{append_cases, contained, in_filter, in_flat, in_map, is_in, of_filter, of_flat, of_map}
-use Rattle.dk_fits.specs.Fits.{fit}
-use Rattle.dk_fits.specs.Instances.{rows_of}
-use Rattle.dk_fits.specs.Laws.{IsSample}
+use Rattle.dk_instances.proofs.Listing.{row_in, row_of_grammar}
+use Rattle.dk_instances.proofs.Members.{append_cases, contained, in_filter, in_flat, in_map, is_in, of_filter, of_flat, of_map}
+use Rattle.dk_instances.specs.Fits.{fit}
+use Rattle.dk_instances.specs.Instances.{rows_of}
+use Rattle.dk_instances.specs.Laws.{IsSample}
 use Rattle.dk_forms.proofs.Summaries.{IsIn-append_left, IsIn-append_right}
 use Rattle.dk_forms.specs.Laws.{IsIn}
 use Rattle.dk_forms.specs.declared.states.State.TheVariants.{Broken}

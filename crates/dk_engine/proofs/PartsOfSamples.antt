@@ -16,10 +16,10 @@ use Rattle.dk_classes.specs.Classes.{kind_at, var_kinds}
 use Rattle.dk_classes.specs.Leaders.{own_leaders}
 use Rattle.dk_constants.proofs.Determined.{known_some}
 use Rattle.dk_constants.specs.Known.{Entries, known_at}
-use Rattle.dk_fits.proofs.Fitting.{count_of_none, count_of_tuples, fit_of_plain}
-use Rattle.dk_fits.proofs.Whole.{fit_is_proper}
-use Rattle.dk_fits.specs.Fits.{fit, tuples_of}
-use Rattle.dk_fits.specs.Laws.{satisfies}
+use Rattle.dk_instances.proofs.Fitting.{count_of_none, count_of_tuples, fit_of_plain}
+use Rattle.dk_instances.proofs.Whole.{fit_is_proper}
+use Rattle.dk_instances.specs.Fits.{fit, tuples_of}
+use Rattle.dk_instances.specs.Laws.{satisfies}
 use Rattle.dk_forms.specs.declared.states.State.TheVariants as state
 use Rattle.dk_presence.specs.Patterns.{capped, count_of, counted_by, has, present_in}
 use Rattle.dk_meanings.proofs.RowLaws.{laws_of}

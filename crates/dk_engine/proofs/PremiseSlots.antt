@@ -10,9 +10,9 @@ use Rattle.dk_base.specs.declared.kinds.VarId.{VarId}
 use Rattle.dk_base.specs.declared.kinds.VarInfo.{VarInfo}
 use Rattle.dk_base.specs.declared.values.Value.{Value}
 use Rattle.dk_classes.specs.Leaders.{own_leaders}
-use Rattle.dk_fits.proofs.Members.{contained, in_map, is_in}
-use Rattle.dk_fits.proofs.Turning.{fits_turn}
-use Rattle.dk_fits.specs.Fits.{fit, premise_holds, tuples_of}
+use Rattle.dk_instances.proofs.Members.{contained, in_map, is_in}
+use Rattle.dk_instances.proofs.Turning.{fits_turn}
+use Rattle.dk_instances.specs.Fits.{fit, premise_holds, tuples_of}
 use Rattle.dk_forms.specs.Laws.{IsIn}
 use Rattle.dk_forms.specs.Plain.{IsPlainState, plain_of}
 use Rattle.dk_forms.specs.declared.states.State.{State}

@@ -8,9 +8,9 @@ use Rattle.std.proofs.lemmas.List.Folds.{list_all-map}
 use Rattle.std.proofs.lemmas.List.Sums.{AllPass-from_list_all, list_all-from_AllPass}
 use Rattle.dk_base.specs.declared.kinds.VarId.{VarId}
 use Rattle.dk_base.specs.declared.values.Value.{Value}
-use Rattle.dk_fits.proofs.Pushing.{fit_push}
-use Rattle.dk_fits.proofs.Members.{append_cases, in_filter, in_map, is_in}
-use Rattle.dk_fits.specs.Fits.{fit, is_whole, tuple_in, tuples_of}
+use Rattle.dk_instances.proofs.Pushing.{fit_push}
+use Rattle.dk_instances.proofs.Members.{append_cases, in_filter, in_map, is_in}
+use Rattle.dk_instances.specs.Fits.{fit, is_whole, tuple_in, tuples_of}
 use Rattle.dk_forms.proofs.Summaries.{IsIn-append_left}
 use Rattle.dk_forms.specs.Laws.{IsIn}
 use Rattle.dk_forms.specs.declared.states.State.{State}

@@ -5,9 +5,9 @@ use Rattle.dk_base.specs.Tuples.{int_of, value_at}
 use Rattle.dk_base.specs.declared.kinds.VarId.{VarId}
 use Rattle.dk_base.specs.declared.values.Value.{Value}
 use Rattle.dk_base.specs.declared.values.Value.TheVariants as value
-use Rattle.dk_fits.specs.Fits.{tuple_in}
 use Rattle.dk_forms.specs.Greatest.{greatest_join, greatest_of}
 use Rattle.dk_forms.specs.declared.states.State.{State}
+use Rattle.dk_instances.specs.Fits.{tuple_in}
 use Rattle.dk_meanings.specs.Meanings.{meanings, state_of}
 use Rattle.dk_samples.specs.Samples.{value_in}
 use Rattle.dk_template.specs.Templates.{form_of, rows}

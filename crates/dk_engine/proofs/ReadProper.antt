@@ -4,11 +4,11 @@ use Rattle.std.proofs.lemmas.List.Elements.{All-cons, All-nil}
 use Rattle.dk_base.specs.declared.kinds.VarId.{VarId}
 use Rattle.dk_base.specs.declared.kinds.VarInfo.{VarInfo}
 use Rattle.dk_base.specs.declared.values.Value.{Value}
-use Rattle.dk_fits.proofs.Whole.{is_tuple}
-use Rattle.dk_fits.specs.Fits.{is_whole, tuple_in}
-use Rattle.dk_fits.specs.Laws.{IsSample}
 use Rattle.dk_forms.specs.declared.states.State.{State}
 use Rattle.dk_forms.specs.declared.states.State.TheVariants as state
+use Rattle.dk_instances.proofs.Whole.{is_tuple}
+use Rattle.dk_instances.specs.Fits.{is_whole, tuple_in}
+use Rattle.dk_instances.specs.Laws.{IsSample}
 use Rattle.dk_meanings.proofs.RowLaws.{laws_of}
 use Rattle.dk_meanings.specs.Meanings.{state_of}
 use Rattle.dk_template.proofs.Exchanges.{proper_disarranged}

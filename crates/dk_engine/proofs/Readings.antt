@@ -14,11 +14,11 @@ use Rattle.dk_classes.specs.Classes.{kind_at, var_kinds}
 use Rattle.dk_classes.specs.Leaders.{leader_at, own_leaders}
 use Rattle.dk_constants.specs.Constants.{AreConstants}
 use Rattle.dk_constants.specs.Known.{Entries, known_at}
-use Rattle.dk_fits.proofs.Fitting.{count_alike, count_of_tuples, fit_alike, fit_of_none}
-use Rattle.dk_fits.proofs.Pushing.{fit_of_one}
-use Rattle.dk_fits.proofs.Turning.{fits_turn}
-use Rattle.dk_fits.specs.Fits.{fit, tuple_in, tuples_of}
-use Rattle.dk_fits.specs.Laws.{IsSample}
+use Rattle.dk_instances.proofs.Fitting.{count_alike, count_of_tuples, fit_alike, fit_of_none}
+use Rattle.dk_instances.proofs.Pushing.{fit_of_one}
+use Rattle.dk_instances.proofs.Turning.{fits_turn}
+use Rattle.dk_instances.specs.Fits.{fit, tuple_in, tuples_of}
+use Rattle.dk_instances.specs.Laws.{IsSample}
 use Rattle.dk_forms.specs.declared.states.State.{State}
 use Rattle.dk_forms.specs.declared.states.State.TheVariants.{Broken, Empty, Holds}
 use Rattle.dk_presence.proofs.Refining.{has-contains}

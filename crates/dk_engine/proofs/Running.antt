@@ -10,10 +10,10 @@ use Rattle.std.proofs.lemmas.Option.{slice_get_cases}
 use Rattle.dk_base.specs.declared.kinds.VarId.{VarId}
 use Rattle.dk_base.specs.declared.kinds.VarInfo.{VarInfo}
 use Rattle.dk_base.specs.declared.values.Value.{Value}
-use Rattle.dk_fits.specs.Laws.{IsSample}
 use Rattle.dk_forms.specs.declared.states.State.TheVariants.{Broken}
 use Rattle.dk_grammar.proofs.Slots.{slot_of}
 use Rattle.dk_grammar.specs.Runs.{IsSlot}
+use Rattle.dk_instances.specs.Laws.{IsSample}
 use Rattle.dk_template.specs.Proper.{IsProper}
 use Rattle.dk_template.specs.Templates.{form_of, role_kinds}
 use Rattle.dk_template.specs.declared.grammar.Grammar.{Grammar}

@@ -8,10 +8,10 @@ use Rattle.std.proofs.lemmas.List.Elements.{All-contains, All-nil}
 use Rattle.dk_base.specs.declared.kinds.VarId.{VarId}
 use Rattle.dk_base.specs.declared.kinds.VarInfo.{VarInfo}
 use Rattle.dk_base.specs.declared.values.Value.{Value}
-use Rattle.dk_fits.proofs.Pushing.{fit_push}
-use Rattle.dk_fits.specs.Laws.{IsSample}
 use Rattle.dk_forms.specs.declared.states.State.{State}
 use Rattle.dk_forms.specs.declared.states.State.TheVariants.{Broken, Empty}
+use Rattle.dk_instances.proofs.Pushing.{fit_push}
+use Rattle.dk_instances.specs.Laws.{IsSample}
 use Rattle.dk_suppress.specs.Rules.{Rule, is_suppressed, rules}
 use Rattle.dk_template.specs.Premises.{premise_fits, row_of, suffices}
 use Rattle.dk_template.specs.declared.answers.Premise.{Premise}

@@ -10,9 +10,9 @@ use Rattle.dk_base.specs.declared.values.Value.{Value}
 use Rattle.dk_classes.proofs.OwnLeaders.{leads_from_own, own_ascend}
 use Rattle.dk_classes.specs.Leaders.{own_leaders}
 use Rattle.dk_constants.specs.Known.{Entries, EntriesAscend as KnownAscend, known_at, none_known}
-use Rattle.dk_fits.proofs.Ascending.{Ascend, ascend_from_pairs}
-use Rattle.dk_fits.proofs.Members.{contained}
 use Rattle.dk_forms.specs.Laws.{IsIn}
+use Rattle.dk_instances.proofs.Ascending.{Ascend, ascend_from_pairs}
+use Rattle.dk_instances.proofs.Members.{contained}
 use Rattle.dk_template.specs.declared.grammar.Grammar.{Grammar}
 use Rattle.dk_engine.specs.Conditions.{CanBeFed}
 use Rattle.dk_engine.specs.declared.kept.Kept.{Kept}

@@ -9,14 +9,14 @@ use Rattle.dk_base.specs.declared.kinds.VarInfo.{VarInfo}
 use Rattle.dk_base.specs.declared.values.Value.{Value}
 use Rattle.dk_classes.specs.Leaders.{own_leaders}
 use Rattle.dk_constants.specs.Known.{Entries}
-use Rattle.dk_fits.proofs.Ascending.{Ascend, along, ascend_from_pairs, joined, kept, numbers, pairs, tuples, weaker}
-use Rattle.dk_fits.proofs.Listing.{in_tuples, of_tuples, row_in, row_of_grammar}
-use Rattle.dk_fits.proofs.Members.{contained, in_filter, in_flat, in_map, is_in, of_filter, of_flat, of_map}
-use Rattle.dk_fits.specs.Fits.{fit}
-use Rattle.dk_fits.specs.Instances.{Precedes, rows_of, tuples_over}
 use Rattle.dk_forms.specs.Laws.{IsIn}
 use Rattle.dk_forms.specs.declared.states.State.{State}
 use Rattle.dk_forms.specs.declared.states.State.TheVariants.{Broken}
+use Rattle.dk_instances.proofs.Ascending.{Ascend, along, ascend_from_pairs, joined, kept, numbers, pairs, tuples, weaker}
+use Rattle.dk_instances.proofs.Listing.{in_tuples, of_tuples, row_in, row_of_grammar}
+use Rattle.dk_instances.proofs.Members.{contained, in_filter, in_flat, in_map, is_in, of_filter, of_flat, of_map}
+use Rattle.dk_instances.specs.Fits.{fit}
+use Rattle.dk_instances.specs.Instances.{Precedes, rows_of, tuples_over}
 use Rattle.dk_samples.specs.Leaders.{VarsAscend as LeadersAscend}
 use Rattle.dk_suppress.proofs.Asking.{suppressed_alike}
 use Rattle.dk_suppress.specs.Rules.{is_suppressed}

@@ -9,8 +9,8 @@ use Rattle.std.proofs.lemmas.List.FromFn.{get_or-range_with_len, length-range_wi
 use Rattle.dk_base.specs.declared.kinds.VarId.{VarId}
 use Rattle.dk_base.specs.declared.kinds.VarInfo.{VarInfo}
 use Rattle.dk_constants.specs.Known.{Entries}
-use Rattle.dk_fits.specs.Instances.{rows_of, tuples_over}
 use Rattle.dk_forms.specs.declared.states.State.{State}
+use Rattle.dk_instances.specs.Instances.{rows_of, tuples_over}
 use Rattle.dk_template.specs.Templates.{arity_of, rows_in}
 use Rattle.dk_template.specs.declared.grammar.Grammar.{Grammar}
 use Rattle.dk_template.specs.declared.grammar.RowId.{RowId}

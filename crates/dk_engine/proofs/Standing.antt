@@ -15,7 +15,7 @@ use Rattle.dk_classes.specs.Leaders.{leader_at, own_leaders, var}
 use Rattle.dk_constants.proofs.Feeding.{has_front, has_push}
 use Rattle.dk_constants.specs.Constants.{AreConstants}
 use Rattle.dk_constants.specs.Known.{known_at}
-use Rattle.dk_fits.specs.Fits.{fit, tuple_in}
+use Rattle.dk_instances.specs.Fits.{fit, tuple_in}
 use Rattle.dk_samples.specs.Samples.{value_in}
 use Rattle.dk_template.specs.Templates.{IsRow}
 use Rattle.dk_template.specs.declared.grammar.Grammar.{Grammar}

@@ -9,8 +9,8 @@ use Rattle.dk_base.specs.Spelling.{IsWritten}
 use Rattle.dk_base.specs.declared.kinds.VarId.{VarId}
 use Rattle.dk_base.specs.declared.kinds.VarInfo.{VarInfo}
 use Rattle.dk_base.specs.declared.values.Value.{Value}
-use Rattle.dk_fits.specs.Fits.{fit, premise_holds}
-use Rattle.dk_fits.proofs.Pushing.{fit_push, fit_stays_broken}
+use Rattle.dk_instances.specs.Fits.{fit, premise_holds}
+use Rattle.dk_instances.proofs.Pushing.{fit_push, fit_stays_broken}
 use Rattle.dk_forms.specs.declared.states.State.TheVariants.{Broken}
 use Rattle.dk_suppress.specs.Rules.{Rule, asks, has_rule, is_suppressed, rules}
 use Rattle.dk_suppress.specs.Soundness.{fit_of}

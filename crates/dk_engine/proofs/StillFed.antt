@@ -6,7 +6,7 @@ use Rattle.dk_base.specs.declared.kinds.VarInfo.{VarInfo}
 use Rattle.dk_base.specs.declared.values.Value.{Value}
 use Rattle.dk_classes.proofs.OwnLeaders.{own_ascend}
 use Rattle.dk_classes.specs.Leaders.{own_leaders}
-use Rattle.dk_fits.specs.Laws.{IsSample}
+use Rattle.dk_instances.specs.Laws.{IsSample}
 use Rattle.dk_template.specs.Proper.{IsProper}
 use Rattle.dk_template.specs.Templates.{form_of}
 use Rattle.dk_template.specs.declared.grammar.Grammar.{Grammar}

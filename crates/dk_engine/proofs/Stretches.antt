@@ -10,7 +10,6 @@ use Rattle.dk_base.specs.Tuples.{int_of, value_at}
 use Rattle.dk_base.specs.declared.kinds.VarId.{VarId}
 use Rattle.dk_base.specs.declared.values.Value.{Value}
 use Rattle.dk_base.specs.declared.values.Value.TheVariants as value
-use Rattle.dk_fits.specs.Fits.{tuple_in}
 use Rattle.dk_forms.proofs.PlaneFacts.{plane_of_point}
 use Rattle.dk_forms.proofs.PlaneStays.{span_stays}
 use Rattle.dk_forms.proofs.PointOrder.{before_antisymmetric, before_or, before_transitive}
@@ -18,6 +17,7 @@ use Rattle.dk_forms.specs.Known.{broken, fact}
 use Rattle.dk_forms.specs.Plane.{Before, IsPlaneState, IsSpan, are_aligned, are_parallel, first_off, greater, in_space, is_before, lesser, plane_between, plane_from, plane_join, plane_meet, plane_of, plane_of_all, plane_state, plane_through, span}
 use Rattle.dk_forms.specs.declared.states.State.{State}
 use Rattle.dk_forms.specs.declared.states.State.TheVariants.{Span}
+use Rattle.dk_instances.specs.Fits.{tuple_in}
 use Rattle.dk_meanings.specs.Meanings.{meanings, state_of}
 use Rattle.dk_samples.specs.Samples.{value_in}
 use Rattle.dk_template.specs.Proper.{IsProper}

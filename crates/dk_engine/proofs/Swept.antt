@@ -7,11 +7,11 @@ use Rattle.dk_base.specs.declared.kinds.VarId.{VarId}
 use Rattle.dk_base.specs.declared.kinds.VarInfo.{VarInfo}
 use Rattle.dk_classes.specs.Leaders.{var}
 use Rattle.dk_constants.specs.Known.{Entries}
-use Rattle.dk_fits.proofs.Members.{append_cases, in_filter, in_flat, in_map, is_in, of_filter, of_flat, of_map}
-use Rattle.dk_fits.specs.Instances.{rows_of}
 use Rattle.dk_forms.proofs.Summaries.{IsIn-append_left, IsIn-append_right}
 use Rattle.dk_forms.specs.Laws.{IsIn}
 use Rattle.dk_forms.specs.declared.states.State.{State}
+use Rattle.dk_instances.proofs.Members.{append_cases, in_filter, in_flat, in_map, is_in, of_filter, of_flat, of_map}
+use Rattle.dk_instances.specs.Instances.{rows_of}
 use Rattle.dk_template.specs.Templates.{arity_of}
 use Rattle.dk_template.specs.declared.grammar.Grammar.{Grammar}
 use Rattle.dk_template.specs.declared.grammar.RowId.{RowId}

@@ -15,7 +15,7 @@ use Rattle.dk_classes.specs.Classes.{AreNew, kind_at, var_kinds}
 use Rattle.dk_classes.specs.Leaders.{leader_at, own_leaders}
 use Rattle.dk_constants.proofs.Feeding.{constants_first}
 use Rattle.dk_constants.specs.Known.{Entries, known_at}
-use Rattle.dk_fits.specs.Laws.{IsSample}
+use Rattle.dk_instances.specs.Laws.{IsSample}
 use Rattle.dk_presence.proofs.Placing.{all_added}
 use Rattle.dk_presence.proofs.Refining.{contains-has}
 use Rattle.dk_presence.specs.Patterns.{has, present_in}

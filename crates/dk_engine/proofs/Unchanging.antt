@@ -9,8 +9,8 @@ use Rattle.dk_base.specs.declared.kinds.VarInfo.{VarInfo}
 use Rattle.dk_base.specs.declared.values.Value.{Value}
 use Rattle.dk_classes.specs.Leaders.{own_leaders}
 use Rattle.dk_constants.specs.Known.{known_at}
-use Rattle.dk_fits.specs.Fits.{fit, premise_holds}
-use Rattle.dk_fits.proofs.Pushing.{fit_push}
+use Rattle.dk_instances.specs.Fits.{fit, premise_holds}
+use Rattle.dk_instances.proofs.Pushing.{fit_push}
 use Rattle.dk_forms.specs.declared.states.State.{State}
 use Rattle.dk_samples.specs.Samples.{value_in}
 use Rattle.dk_presence.specs.Patterns.{pattern_count, present_in}

@@ -17,10 +17,10 @@ use Rattle.dk_base.specs.declared.values.Value.TheVariants as value
 use Rattle.dk_classes.proofs.OfKind.{kind_read}
 use Rattle.dk_classes.specs.Classes.{kind_at, var_kinds as kinds_of_vars}
 use Rattle.dk_constants.specs.Known.{known_at}
-use Rattle.dk_fits.proofs.Whole.{kind_alike, kind_is}
-use Rattle.dk_fits.specs.Fits.{is_whole}
 use Rattle.dk_forms.specs.declared.states.State.{State}
 use Rattle.dk_forms.specs.declared.states.State.TheVariants as state
+use Rattle.dk_instances.proofs.Whole.{kind_alike, kind_is}
+use Rattle.dk_instances.specs.Fits.{is_whole}
 use Rattle.dk_meanings.proofs.RowLaws.{laws_of}
 use Rattle.dk_meanings.specs.Meanings.{state_of}
 use Rattle.dk_presence.specs.Patterns.{counted_by}

@@ -10,10 +10,10 @@ use Rattle.dk_classes.specs.Classes.{AreLeaders, var_kinds}
 use Rattle.dk_classes.specs.Leaders.{own_leaders}
 use Rattle.dk_constants.specs.Constants.{AreConstants}
 use Rattle.dk_constants.specs.Known.{Entries}
-use Rattle.dk_fits.specs.Fits.{fit}
-use Rattle.dk_fits.specs.Instances.{ComesBefore}
-use Rattle.dk_fits.specs.Laws.{IsSample}
 use Rattle.dk_forms.specs.declared.states.State.TheVariants.{Broken}
+use Rattle.dk_instances.specs.Fits.{fit}
+use Rattle.dk_instances.specs.Instances.{ComesBefore}
+use Rattle.dk_instances.specs.Laws.{IsSample}
 use Rattle.dk_presence.specs.Patterns.{AreCounted, AreHeld, capped, patterns_of}
 use Rattle.dk_presence.specs.declared.held.Held.{Held}
 use Rattle.dk_suppress.specs.Rules.{is_suppressed}

@@ -7,8 +7,8 @@ use Rattle.dk_classes.specs.Classes.{AreNew, IsSplit}
 use Rattle.dk_classes.specs.Leaders.{own_leaders}
 use Rattle.dk_constants.specs.Constants.{AreFed}
 use Rattle.dk_constants.specs.Known.{Entries}
-use Rattle.dk_fits.specs.Fits.{is_whole, tuple_in}
-use Rattle.dk_fits.specs.Instances.{rows_of, tuples_over}
+use Rattle.dk_instances.specs.Fits.{is_whole, tuple_in}
+use Rattle.dk_instances.specs.Instances.{rows_of, tuples_over}
 use Rattle.dk_forms.specs.declared.states.State.{State}
 use Rattle.dk_forms.specs.declared.states.State.TheVariants.{Broken}
 use Rattle.dk_presence.specs.Patterns.{capped, present_in}

@@ -7,8 +7,8 @@ use Rattle.dk_base.specs.declared.values.Value.{Value}
 use Rattle.dk_classes.specs.Classes.{AreLeaders, kind_at, var_kinds}
 use Rattle.dk_classes.specs.Leaders.{own_leaders}
 use Rattle.dk_constants.specs.Known.{Entries}
-use Rattle.dk_fits.specs.Fits.{fit}
-use Rattle.dk_fits.specs.Laws.{IsSample}
+use Rattle.dk_instances.specs.Fits.{fit}
+use Rattle.dk_instances.specs.Laws.{IsSample}
 use Rattle.dk_presence.specs.Patterns.{count_of}
 use Rattle.dk_presence.specs.declared.held.Held.{Held}
 use Rattle.dk_samples.specs.Leaders.{VarsAscend}

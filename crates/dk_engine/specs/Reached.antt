@@ -1,7 +1,7 @@
 -- Which rows a row frees, by itself and through others, and which rows rules conclude.
 use Rattle.std.specs.Prelude.{◌==◌, ◌++◌, Bool, List, [], filter, flat_map, map, slice_index_or}
 use Rattle.std.specs.List.{list_any, range_with_len}
-use Rattle.dk_fits.specs.Instances.{rows_of}
+use Rattle.dk_instances.specs.Instances.{rows_of}
 use Rattle.dk_suppress.specs.Rules.{freed, has_rule}
 use Rattle.dk_template.specs.Numbers as number
 use Rattle.dk_template.specs.declared.grammar.Grammar.TheVariants as grammar

@@ -8,9 +8,9 @@ use Rattle.dk_classes.specs.Classes.{AreLeaders, AreNew, var_kinds}
 use Rattle.dk_classes.specs.Leaders.{own_leaders}
 use Rattle.dk_constants.specs.Constants.{AreConstants, HaveEnded}
 use Rattle.dk_constants.specs.Known.{Entries, known_at}
-use Rattle.dk_fits.specs.Fits.{fit}
 use Rattle.dk_forms.specs.declared.states.State.{State}
 use Rattle.dk_forms.specs.declared.states.State.TheVariants.{Broken, Empty}
+use Rattle.dk_instances.specs.Fits.{fit}
 use Rattle.dk_presence.specs.Patterns.{pattern_count, present_in}
 use Rattle.dk_suppress.specs.Rules.{Rule, asks, has_rule, is_suppressed, rules}
 use Rattle.dk_template.specs.Admitted.{admits, is_written}

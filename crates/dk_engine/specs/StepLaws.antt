@@ -16,8 +16,8 @@ use Rattle.dk_template.specs.Admitted.{admits}
 use Rattle.dk_template.specs.Premises.{at_role, premise_fits, roles_read, row_of, suffices}
 use Rattle.dk_template.specs.Templates.{IsRow, form_of, rank_of}
 use Rattle.dk_template.specs.declared.templates.StateForm.TheVariants.{Plain}
-use Rattle.dk_fits.specs.Fits.{fit}
-use Rattle.dk_fits.specs.Laws.{satisfies}
+use Rattle.dk_instances.specs.Fits.{fit}
+use Rattle.dk_instances.specs.Laws.{satisfies}
 use Rattle.dk_template.specs.declared.answers.Premise.{Premise}
 use Rattle.dk_template.specs.declared.grammar.Grammar.{Grammar}
 use Rattle.dk_template.specs.declared.grammar.RowId.{RowId}

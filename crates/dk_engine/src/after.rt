@@ -1,9 +1,9 @@
 // What is read with one sample more.
 ghost use Rattle.std.specs.Prelude.{◌≡◌, ◌↔◌, ◌∷◌, [], true, if◌then◌else◌, IfOk, IsTrue, OnErr};
 ghost use Rattle.dk_base.specs.Values.{values_of};
-ghost use Rattle.dk_fits.specs.Fits.{is_whole, tuple_in};
-ghost use Rattle.dk_fits.specs.Laws.{IsSample};
 ghost use Rattle.dk_forms.specs.declared.states.State.TheVariants.{Broken};
+ghost use Rattle.dk_instances.specs.Fits.{is_whole, tuple_in};
+ghost use Rattle.dk_instances.specs.Laws.{IsSample};
 ghost use Rattle.dk_meanings.specs.Meanings.{state_of};
 ghost use Rattle.dk_template.specs.Admitted.{admits};
 ghost use Rattle.dk_template.specs.Joins.{joined};
@@ -87,7 +87,7 @@ pub(crate) struct After<'a> {
 impl<'a> Model for After<'a> {
     ghost use Rattle.dk_base.specs.Values.{values_of};
     ghost use Rattle.dk_engine.specs.Levels.{OneMore};
-    ghost use Rattle.dk_fits.specs.Laws.{IsSample};
+    ghost use Rattle.dk_instances.specs.Laws.{IsSample};
 
     ghost Value = { OneMore };
 

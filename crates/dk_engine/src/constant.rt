@@ -1,7 +1,7 @@
 // States of constant leaders.
 ghost use Rattle.std.specs.Prelude.{◌≡◌, ◌≤◌, true, IfOk, IsTrue, OnErr, is_some, length, not, unwrap_or};
 ghost use Rattle.dk_constants.specs.Known.{known_at};
-ghost use Rattle.dk_fits.specs.Fits.{is_whole};
+ghost use Rattle.dk_instances.specs.Fits.{is_whole};
 ghost use Rattle.dk_samples.specs.Samples.{is_present};
 ghost use Rattle.dk_template.specs.Rows.{IsTuple};
 ghost use Rattle.dk_template.specs.Templates.{IsRow, role_kinds};

@@ -4,7 +4,7 @@ ghost use Rattle.std.specs.List.{list_any};
 ghost use Rattle.dk_base.specs.Values.{values_of};
 ghost use Rattle.dk_base.specs.declared.values.Value.{Value as SampleValue};
 ghost use Rattle.dk_classes.specs.Leaders.{own_leaders};
-ghost use Rattle.dk_fits.specs.Laws.{IsSample};
+ghost use Rattle.dk_instances.specs.Laws.{IsSample};
 ghost use Rattle.dk_presence.specs.Patterns.{present_in};
 ghost use Rattle.dk_presence.specs.Steps.{AreUnheld, Differ, refined, with_sample_of};
 ghost use Rattle.dk_samples.specs.Leaders.{VarsAscend};

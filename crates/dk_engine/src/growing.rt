@@ -2,7 +2,7 @@
 // line, beyond the last one.
 ghost use Rattle.std.specs.Prelude.{◌≡◌, ◌≢◌, ◌∷◌, [], ◌^◌, false, unsigned_abs, nat_le, IsTrue};
 ghost use Rattle.dk_base.specs.Values.{values_of};
-ghost use Rattle.dk_fits.specs.Fits.{is_whole, tuple_in};
+ghost use Rattle.dk_instances.specs.Fits.{is_whole, tuple_in};
 ghost use Rattle.dk_forms.specs.Plane.{IsPlaneState, IsPoint, IsSpan, are_aligned, are_parallel, in_space, is_before, plane_join, plane_of};
 ghost use Rattle.dk_forms.specs.Points.{IsGap};
 ghost use Rattle.dk_forms.specs.declared.states.State.TheVariants.{Broken, Span};

@@ -12,7 +12,7 @@ use Rattle.dk_engine.proofs.SlotPlaces.{precedes_both, precedes_true, true_prece
 use Rattle.dk_engine.specs.Ordering.{precedes}
 use Rattle.dk_filters.proofs.Asked.{admitted-there}
 use Rattle.dk_filters.specs.Facts.{info_at}
-use Rattle.dk_fits.specs.Instances.{ComesBefore, Precedes}
+use Rattle.dk_instances.specs.Instances.{ComesBefore, Precedes}
 use Rattle.dk_forms.specs.declared.states.State.{State}
 use Rattle.dk_forms.specs.declared.states.State.TheVariants as state
 use Rattle.dk_graph.specs.Notes.{noted_under}

@@ -10,7 +10,7 @@ use Rattle.dk_base.specs.Items.{is_text}
 use Rattle.dk_base.specs.Numbers.{fits_i64}
 use Rattle.dk_base.specs.declared.kinds.VarId.{VarId}
 use Rattle.dk_base.specs.declared.kinds.VarInfo.{VarInfo}
-use Rattle.dk_fits.specs.Instances.{Precedes}
+use Rattle.dk_instances.specs.Instances.{Precedes}
 use Rattle.dk_forms.specs.declared.states.State.{State}
 use Rattle.dk_forms.specs.declared.states.State.TheVariants as state
 use Rattle.dk_print.specs.Parts.{Part, bound, values, null_or, remainder, modulus, lead, term, constant, step, bound_in, code_in, constant_term_in, factor_at, known_text, modulus_in, offset_in, remainder_in, text_by}

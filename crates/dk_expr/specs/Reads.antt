@@ -2,9 +2,9 @@
 use Rattle.std.specs.Prelude.{◌≡◌, ◌==◌, ℕ, IsTrue, List, if◌then◌else◌}
 use Rattle.dk_base.specs.declared.kinds.VarId.{VarId}
 use Rattle.dk_base.specs.declared.kinds.VarInfo.{VarInfo}
-use Rattle.dk_fits.specs.Instances.{ComesBefore, IsInstance}
 use Rattle.dk_forms.specs.declared.states.State.{State}
 use Rattle.dk_forms.specs.declared.states.State.TheVariants as state
+use Rattle.dk_instances.specs.Instances.{ComesBefore, IsInstance}
 use Rattle.dk_print.specs.Texts.{instance_text}
 use Rattle.dk_template.specs.Fitting.{fits}
 use Rattle.dk_template.specs.Proper.{IsProper}

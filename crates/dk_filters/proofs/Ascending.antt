@@ -5,10 +5,10 @@ use Rattle.std.proofs.Common.{ap, arith, subst, sym}
 use Rattle.std.proofs.lemmas.List.{get_or-map, length-map}
 use Rattle.std.proofs.lemmas.List.Kept.{AllPairs-filter}
 use Rattle.dk_base.specs.declared.kinds.VarId.{VarId}
-use Rattle.dk_fits.proofs.Ascending.{instances_ascend}
-use Rattle.dk_fits.proofs.Listing.{instances_listed}
-use Rattle.dk_fits.specs.Instances.{ComesBefore, instances_of}
 use Rattle.dk_graph.proofs.Members.{contained-has, filter-has, has-contained, has-filter, has-map}
+use Rattle.dk_instances.proofs.Ascending.{instances_ascend}
+use Rattle.dk_instances.proofs.Listing.{instances_listed}
+use Rattle.dk_instances.specs.Instances.{ComesBefore, instances_of}
 use Rattle.dk_template.specs.declared.grammar.RowId.{RowId}
 use Rattle.dk_filters.specs.Candidates.{candidate_of, candidates_of, it_holds}
 use Rattle.dk_filters.specs.Laws.{CandidatesAreInstancesThatHold, CandidatesAscend, KeptCandidatesAscend, StandsBefore}

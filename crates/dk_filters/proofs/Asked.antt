@@ -10,7 +10,7 @@ use Rattle.dk_base.specs.declared.kinds.Kind.{Kind}
 use Rattle.dk_base.specs.declared.kinds.Kind.TheVariants as kind
 use Rattle.dk_base.specs.declared.kinds.VarId.{VarId}
 use Rattle.dk_base.specs.declared.kinds.VarInfo.{VarInfo}
-use Rattle.dk_fits.specs.Instances.{all_vars, are_distinct}
+use Rattle.dk_instances.specs.Instances.{all_vars, are_distinct}
 use Rattle.dk_template.specs.Admitted.{admits, suits}
 use Rattle.dk_forms.specs.declared.states.State.{State}
 use Rattle.dk_points.specs.Sameness.{same_compar}

@@ -12,7 +12,7 @@ use Rattle.dk_base.specs.declared.kinds.VarId.{VarId}
 use Rattle.dk_base.specs.declared.kinds.VarInfo.{VarInfo}
 use Rattle.dk_base.specs.declared.values.Value.{Value}
 use Rattle.dk_base.specs.declared.values.Value.TheVariants as value
-use Rattle.dk_fits.specs.Fits.{fit}
+use Rattle.dk_instances.specs.Fits.{fit}
 use Rattle.dk_forms.specs.Distinct.{put}
 use Rattle.dk_forms.specs.Line.{through}
 use Rattle.dk_meanings.specs.Meanings.{meanings, state_of}

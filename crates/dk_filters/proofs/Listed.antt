@@ -8,7 +8,7 @@ use Rattle.std.proofs.lemmas.List.Elements.{All-head, All-tail}
 use Rattle.std.proofs.lemmas.List.FromFn.{filter_of_map_range_with_len_more, get_or-map-range_with_len, length-map-range_with_len, map-range_with_len_more}
 use Rattle.dk_base.specs.declared.kinds.VarId.{VarId}
 use Rattle.dk_base.specs.declared.kinds.VarInfo.{VarInfo}
-use Rattle.dk_fits.specs.Instances.{all_vars}
+use Rattle.dk_instances.specs.Instances.{all_vars}
 use Rattle.dk_template.specs.Premises.{AreThere}
 use Rattle.dk_filters.specs.Answers.{Answers, Parent}
 use Rattle.dk_filters.specs.Facts.{first_like, has_one_value, having_partner}

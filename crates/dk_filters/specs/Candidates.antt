@@ -1,7 +1,7 @@
 -- The candidates for a section.
 use Rattle.std.specs.Prelude.{ℕ, Bool, List, filter, map}
 use Rattle.dk_base.specs.declared.kinds.VarId.{VarId}
-use Rattle.dk_fits.specs.Instances.{instances_of}
+use Rattle.dk_instances.specs.Instances.{instances_of}
 use Rattle.dk_template.specs.Fitting.{fits}
 use Rattle.dk_template.specs.declared.grammar.Grammar.{Grammar}
 use Rattle.dk_template.specs.declared.grammar.RowId.{RowId}

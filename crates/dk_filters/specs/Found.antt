@@ -3,7 +3,7 @@ use Rattle.std.specs.Prelude.{ℕ, Bool, false, List, [], map, slice_index_or}
 use Rattle.std.specs.List.{range_with_len}
 use Rattle.dk_base.specs.declared.kinds.VarId.{VarId}
 use Rattle.dk_base.specs.declared.kinds.VarInfo.{VarInfo}
-use Rattle.dk_fits.specs.Instances.{all_vars}
+use Rattle.dk_instances.specs.Instances.{all_vars}
 use Rattle.dk_filters.specs.Answers.{Answers, Parent}
 use Rattle.dk_filters.specs.Facts.{first_like, has_one_value, having_partner}
 use Rattle.dk_filters.specs.declared.found.PointFacts.{PointFacts}

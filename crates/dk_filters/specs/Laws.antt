@@ -5,8 +5,8 @@ use Rattle.dk_base.specs.Shapes.{is_base_form}
 use Rattle.dk_base.specs.declared.kinds.VarId.{VarId}
 use Rattle.dk_base.specs.declared.kinds.VarInfo.{VarInfo}
 use Rattle.dk_base.specs.declared.values.Value.{Value}
-use Rattle.dk_fits.specs.Instances.{ComesBefore, IsInstance}
 use Rattle.dk_forms.specs.declared.states.State.{State}
+use Rattle.dk_instances.specs.Instances.{ComesBefore, IsInstance}
 use Rattle.dk_samples.specs.Samples.{Agree}
 use Rattle.dk_template.specs.Admitted.{admits}
 use Rattle.dk_template.specs.Premises.{AreThere}

@@ -1,6 +1,6 @@
 // What is found once for a point.
 ghost use Rattle.std.specs.Prelude.{◌≡◌, ◌<◌, ◌^◌, All, IfOk, OnErr, filter, length, map};
-ghost use Rattle.dk_fits.specs.Instances.{all_vars};
+ghost use Rattle.dk_instances.specs.Instances.{all_vars};
 ghost use Rattle.dk_filters.specs.Facts.{are_alike, first_like, has_one_value, info_at, is_one_value, is_partner, one_of_row_for};
 ghost use Rattle.dk_filters.specs.Found.{by_partner, firsts_of, found_of, one_values_of, vars_below};
 ghost use Rattle.dk_filters.specs.Parents.{answers_by, parent_shown};

@@ -1,7 +1,7 @@
 // Which variables are an instance's.
 ghost use Rattle.std.specs.Prelude.{◌≡◌, ◌==◌, not};
 ghost use Rattle.std.specs.List.{list_all};
-ghost use Rattle.dk_fits.specs.Instances.{are_distinct, is_asked};
+ghost use Rattle.dk_instances.specs.Instances.{are_distinct, is_asked};
 ghost use Rattle.dk_template.specs.Templates.{IsRow};
 
 use dk_base::{VarId, VarInfo};

@@ -8,10 +8,10 @@ use Rattle.dk_base.specs.Values.{IsOfKind}
 use Rattle.dk_base.specs.declared.kinds.VarId.{VarId}
 use Rattle.dk_base.specs.declared.kinds.VarInfo.{VarInfo}
 use Rattle.dk_base.specs.declared.values.Value.{Value}
-use Rattle.dk_fits.proofs.Whole.{is_tuple}
-use Rattle.dk_fits.specs.Laws.{IsSample}
 use Rattle.dk_forms.specs.declared.states.State.{State}
 use Rattle.dk_grammar.specs.Runs.{IsSlot}
+use Rattle.dk_instances.proofs.Whole.{is_tuple}
+use Rattle.dk_instances.specs.Laws.{IsSample}
 use Rattle.dk_template.specs.Admitted.{admits, suits}
 use Rattle.dk_template.specs.Proper.{IsProper}
 use Rattle.dk_template.specs.Templates.{form_of, role_kinds, roles_of, template_of}

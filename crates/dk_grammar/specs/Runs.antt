@@ -3,8 +3,8 @@ use Rattle.std.specs.Prelude.{◌≡◌, ◌<◌, ◌≤◌, ℕ, true, All, IsS
 use Rattle.dk_base.specs.declared.kinds.Kind.{Kind}
 use Rattle.dk_base.specs.declared.kinds.VarId.{VarId}
 use Rattle.dk_base.specs.declared.values.Value.{Value}
-use Rattle.dk_fits.specs.Fits.{is_whole, tuple_in}
 use Rattle.dk_forms.specs.declared.states.State.{State}
+use Rattle.dk_instances.specs.Fits.{is_whole, tuple_in}
 use Rattle.dk_meanings.specs.Meanings.{state_of}
 use Rattle.dk_template.specs.Joins.{joined}
 use Rattle.dk_template.specs.Proper.{IsProper}

@@ -1,8 +1,8 @@
 // The first slot of a run that a sample changes, of a row in its own type.
 ghost use Rattle.std.specs.Prelude.{◌≡◌, ◌<◌, ◌↔◌, [], ◌∷◌, All, IsTrue, Some, length, map, true};
 ghost use Rattle.dk_base.specs.Values.{kind_of, value_of, values_of};
-ghost use Rattle.dk_fits.specs.Fits.{is_whole, tuple_in};
 ghost use Rattle.dk_grammar.specs.Runs.{IsFirstWithout, IsSlot, Stays};
+ghost use Rattle.dk_instances.specs.Fits.{is_whole, tuple_in};
 ghost use Rattle.dk_samples.specs.Samples.{value_in};
 ghost use Rattle.dk_template.specs.Rows.{IsTuple};
 ghost use Rattle.dk_template.specs.Templates.{kind_of as kind_of_role, roles_of};

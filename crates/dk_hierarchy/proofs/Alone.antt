@@ -7,7 +7,6 @@ use Rattle.std.proofs.lemmas.Slice.Zip.{AllZip-long}
 use Rattle.dk_base.specs.Values.{IsOfKind}
 use Rattle.dk_base.specs.declared.kinds.VarInfo.{VarInfo}
 use Rattle.dk_engine.specs.Levels.{Whole}
-use Rattle.dk_fits.specs.Laws.{IsSample}
 use Rattle.dk_graph.proofs.Places.{some-injective}
 use Rattle.dk_hierarchy.proofs.Merging.{merged_stand}
 use Rattle.dk_hierarchy.proofs.Onward.{all_mapped_own, own_are_partners}
@@ -18,6 +17,7 @@ use Rattle.dk_hierarchy.specs.Samples.{mapped_sample}
 use Rattle.dk_hierarchy.specs.Standing.{EngineStandsFor, EnginesStandFor, JointStandsFor}
 use Rattle.dk_hierarchy.specs.Ways.{samples_through_all, repeated_samples}
 use Rattle.dk_hierarchy.specs.declared.way.Way.{Way}
+use Rattle.dk_instances.specs.Laws.{IsSample}
 
 module _ (engine : Whole) where
   abbrev way : Way

@@ -6,8 +6,8 @@ use Rattle.std.proofs.Common.{◌∙◌, ap, sym}
 use Rattle.dk_base.specs.declared.kinds.VarId.{VarId}
 use Rattle.dk_base.specs.declared.values.Value.{Value}
 use Rattle.dk_base.specs.declared.values.Value.TheVariants as value
-use Rattle.dk_fits.specs.Fits.{fit, is_whole, tuple_in, tuples_of}
-use Rattle.dk_fits.proofs.Fitting.{count_of_tuples, fit_of_none}
+use Rattle.dk_instances.specs.Fits.{fit, is_whole, tuple_in, tuples_of}
+use Rattle.dk_instances.proofs.Fitting.{count_of_tuples, fit_of_none}
 use Rattle.dk_forms.specs.declared.states.State.TheVariants.{Empty}
 use Rattle.dk_base.specs.SameValues.{same_value}
 use Rattle.dk_presence.specs.Patterns.{capped, count_of}

@@ -2,9 +2,9 @@
 use Rattle.std.specs.Prelude.{◌++◌, All, fold}
 use Rattle.std.proofs.Common.{subst}
 use Rattle.std.proofs.lemmas.List.{append-nil}
-use Rattle.dk_fits.proofs.Fitting.{fit_of_set}
 use Rattle.dk_graph.proofs.Ranked.{deeper}
 use Rattle.dk_graph.specs.Graphs.{edges_into}
+use Rattle.dk_instances.proofs.Fitting.{fit_of_set}
 use Rattle.dk_points.specs.Links.{nodes}
 use Rattle.dk_hierarchy.proofs.Descending.{IsInto, begun, below_is_way, more_paths, others_are, way_done, way_is}
 use Rattle.dk_hierarchy.proofs.MoreWays.{all_with_way, each_added, each_holds, way_added}

@@ -15,10 +15,10 @@ use Rattle.dk_derive.proofs.Parts.{all_flat_map}
 use Rattle.dk_derive.proofs.Written.{value_written}
 use Rattle.dk_derive.specs.Laws.{IsAlike}
 use Rattle.dk_derive.specs.Partners.{partner_with_derived}
-use Rattle.dk_fits.specs.Laws.{IsSample}
 use Rattle.dk_graph.proofs.Places.{some-injective}
 use Rattle.dk_graph.specs.Graphs.{depth_of, edges_into}
 use Rattle.dk_graph.specs.declared.nodes.Edge.{Edge}
+use Rattle.dk_instances.specs.Laws.{IsSample}
 use Rattle.dk_points.specs.Links.{nodes}
 use Rattle.dk_points.specs.Table.{Point}
 use Rattle.dk_samples.specs.Samples.{value_in}

@@ -17,10 +17,10 @@ use Rattle.dk_classes.specs.Classes.{kind_at, var_kinds}
 use Rattle.dk_engine.proofs.Readings.{agreement_read, counts_read, read_fits, row_is}
 use Rattle.dk_engine.specs.Levels.{Whole}
 use Rattle.dk_engine.specs.Reading.{count_read, state_read}
-use Rattle.dk_fits.proofs.Fitting.{count_of_both, fit_of_both, fit_of_none, fit_of_set}
-use Rattle.dk_fits.proofs.Whole.{kind_alike}
-use Rattle.dk_fits.specs.Fits.{fit}
 use Rattle.dk_forms.specs.declared.states.State.TheVariants.{Empty}
+use Rattle.dk_instances.proofs.Fitting.{count_of_both, fit_of_both, fit_of_none, fit_of_set}
+use Rattle.dk_instances.proofs.Whole.{kind_alike}
+use Rattle.dk_instances.specs.Fits.{fit}
 use Rattle.dk_presence.specs.Patterns.{capped, count_of}
 use Rattle.dk_samples.specs.Samples.{Agree, is_present, value_in}
 use Rattle.dk_template.specs.Admitted.{admits, same_kind}

@@ -7,9 +7,9 @@ use Rattle.std.proofs.lemmas.Option.{slice_get-get_or}
 use Rattle.dk_base.specs.declared.values.Value.{Value}
 use Rattle.dk_engine.proofs.Readings.{row_is}
 use Rattle.dk_engine.specs.Levels.{Whole}
-use Rattle.dk_fits.proofs.Fitting.{fit_of_set}
-use Rattle.dk_fits.proofs.Members.{contained, is_in}
 use Rattle.dk_forms.specs.Laws.{IsIn}
+use Rattle.dk_instances.proofs.Fitting.{fit_of_set}
+use Rattle.dk_instances.proofs.Members.{contained, is_in}
 use Rattle.dk_points.specs.Table.{Point}
 use Rattle.dk_samples.specs.Samples.{value_in}
 use Rattle.dk_hierarchy.proofs.Merging.{merged_stand}

@@ -4,9 +4,9 @@ use Rattle.std.proofs.Common.{◌∙◌, ap, arith, inl, inr, subst, sym}
 use Rattle.std.proofs.lemmas.List.{append_assoc}
 use Rattle.dk_base.specs.declared.kinds.VarId.{VarId}
 use Rattle.dk_base.specs.declared.values.Value.{Value}
-use Rattle.dk_fits.proofs.Fitting.{count_of_both}
 use Rattle.dk_forms.proofs.Summaries.{IsIn-append_left, IsIn-append_right}
 use Rattle.dk_forms.specs.Laws.{IsIn}
+use Rattle.dk_instances.proofs.Fitting.{count_of_both}
 use Rattle.dk_presence.specs.Patterns.{capped, count_of}
 use Rattle.dk_hierarchy.specs.Ways.{SamplesTellTheSame, repeated_samples}
 

@@ -6,7 +6,7 @@ use Rattle.dk_base.specs.declared.kinds.VarId.{VarId}
 use Rattle.dk_base.specs.declared.kinds.VarInfo.{VarInfo}
 use Rattle.dk_base.specs.declared.values.Value.{Value}
 use Rattle.dk_derive.specs.Laws.{IsAlike}
-use Rattle.dk_fits.specs.Fits.{fit}
+use Rattle.dk_instances.specs.Fits.{fit}
 use Rattle.dk_forms.specs.declared.states.State.TheVariants.{Empty}
 use Rattle.dk_base.specs.SameValues.{same_value}
 use Rattle.dk_presence.specs.Patterns.{count_of}

@@ -3,8 +3,8 @@ use Rattle.std.specs.Prelude.{◌≡◌, ◌<◌, ◌≤◌, ◌^◌, ◌++◌, 
 use Rattle.dk_base.specs.declared.kinds.VarInfo.{VarInfo}
 use Rattle.dk_derive.specs.Vars.{with_derived_vars}
 use Rattle.dk_engine.specs.Exact.{AreOfPoint}
-use Rattle.dk_fits.specs.Laws.{IsSample}
 use Rattle.dk_graph.specs.Graphs.{depth_of, edges_into, has_cycle}
+use Rattle.dk_instances.specs.Laws.{IsSample}
 use Rattle.dk_points.specs.Laws.{IsBaseVar}
 use Rattle.dk_points.specs.Links.{nodes}
 use Rattle.dk_points.specs.Table.{Point}

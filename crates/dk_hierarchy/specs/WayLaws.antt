@@ -2,9 +2,9 @@
 use Rattle.std.specs.Prelude.{◌≡◌, ◌<◌, ◌++◌, ℕ, false, All, List, [], ◌∷◌, flat_map, fold, length}
 use Rattle.dk_base.specs.declared.kinds.VarId.{VarId}
 use Rattle.dk_base.specs.declared.values.Value.{Value}
-use Rattle.dk_fits.specs.Fits.{fit}
 use Rattle.dk_graph.specs.Graphs.{edges_into, has_cycle}
 use Rattle.dk_graph.specs.declared.nodes.Edge.{Edge}
+use Rattle.dk_instances.specs.Fits.{fit}
 use Rattle.dk_points.specs.Links.{nodes}
 use Rattle.dk_points.specs.Table.{Point}
 use Rattle.dk_template.specs.Templates.{IsRow}

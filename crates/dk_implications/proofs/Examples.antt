@@ -11,8 +11,8 @@ use Rattle.dk_decl.specs.declared.decls.VarDecl.{VarDecl}
 use Rattle.dk_derive.specs.Vars.{with_derived_vars}
 use Rattle.dk_filters.specs.Candidates.{candidates_of}
 use Rattle.dk_filters.specs.Facts.{facts_of}
-use Rattle.dk_fits.specs.Fits.{fit}
-use Rattle.dk_fits.specs.Instances.{instances_of}
+use Rattle.dk_instances.specs.Fits.{fit}
+use Rattle.dk_instances.specs.Instances.{instances_of}
 use Rattle.dk_forms.specs.Distinct.{put}
 use Rattle.dk_forms.specs.Line.{through}
 use Rattle.dk_forms.specs.Modulus.{class, remainder}

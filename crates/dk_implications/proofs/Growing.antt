@@ -6,7 +6,7 @@ use Rattle.std.proofs.lemmas.Bool.{false≢true}
 use Rattle.std.proofs.lemmas.List.Elements.{filter-append}
 use Rattle.dk_base.specs.declared.values.Value.{Value}
 use Rattle.dk_base.specs.declared.values.Value.TheVariants as value
-use Rattle.dk_fits.proofs.Members.{contained, in_filter, is_in, of_filter}
+use Rattle.dk_instances.proofs.Members.{contained, in_filter, is_in, of_filter}
 use Rattle.dk_samples.specs.Samples.{value_in}
 use Rattle.dk_implications.specs.Halves.{half_of, is_truth}
 use Rattle.dk_implications.specs.Laws.{HalvesGrowOneByOne, HalvesHaveTheirSamples}

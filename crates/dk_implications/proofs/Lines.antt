@@ -24,8 +24,8 @@ use Rattle.dk_filters.specs.OfSamples.{agrees, answers_of}
 use Rattle.dk_filters.specs.Sameness.{same_state}
 use Rattle.dk_filters.specs.declared.candidate.Candidate.{Candidate}
 use Rattle.dk_filters.specs.declared.facts.Facts.{Facts}
-use Rattle.dk_fits.specs.Instances.{IsInstance, all_vars, are_distinct, instances_of}
 use Rattle.dk_hierarchy.specs.Standing.{EngineStandsFor}
+use Rattle.dk_instances.specs.Instances.{IsInstance, all_vars, are_distinct, instances_of}
 use Rattle.dk_report.proofs.FlatMaps.{flat_map-flat_map, flat_map-passing}
 use Rattle.dk_report.specs.Keeping.{drops, keeps}
 use Rattle.dk_report.specs.declared.options.Options.{Options}

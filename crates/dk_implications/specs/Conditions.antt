@@ -8,7 +8,7 @@ use Rattle.dk_base.specs.declared.kinds.VarInfo.{VarInfo}
 use Rattle.dk_base.specs.declared.values.Value.{Value}
 use Rattle.dk_filters.specs.Facts.{info_at}
 use Rattle.dk_filters.specs.OfSamples.{agrees}
-use Rattle.dk_fits.specs.Instances.{all_vars}
+use Rattle.dk_instances.specs.Instances.{all_vars}
 use Rattle.dk_template.specs.Admitted.{same_kind}
 
 -- a base variable that is a Bool

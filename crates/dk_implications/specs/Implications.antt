@@ -9,7 +9,7 @@ use Rattle.dk_filters.specs.OfSamples.{agrees, answers_of}
 use Rattle.dk_filters.specs.Sameness.{same_state}
 use Rattle.dk_filters.specs.declared.candidate.Candidate.{Candidate}
 use Rattle.dk_filters.specs.declared.facts.Facts.{Facts}
-use Rattle.dk_fits.specs.Fits.{fit}
+use Rattle.dk_instances.specs.Fits.{fit}
 use Rattle.dk_template.specs.declared.grammar.Grammar.{Grammar}
 use Rattle.dk_implications.specs.Conditions.{conditions}
 use Rattle.dk_implications.specs.Halves.{half_of}

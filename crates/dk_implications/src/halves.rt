@@ -2,10 +2,10 @@
 ghost use Rattle.std.specs.Prelude.{◌≡◌, ◌<◌, [], All, IfOk, length};
 ghost use Rattle.std.specs.List.{AllZip};
 ghost use Rattle.dk_base.specs.Values.{value_of, values_of};
-ghost use Rattle.dk_fits.specs.Laws.{IsSample};
 ghost use Rattle.dk_hierarchy.specs.Samples.{all_vars_of};
 ghost use Rattle.dk_implications.specs.Halves.{is_truth};
 ghost use Rattle.dk_implications.specs.Standing.{AreAlike, AreFed, AreOver, HalvesStandFor, half_by};
+ghost use Rattle.dk_instances.specs.Laws.{IsSample};
 
 use dk_base::{NoMemory, PointId, VarId, View};
 use dk_engine::Engine;

@@ -2,10 +2,10 @@
 ghost use Rattle.std.specs.Prelude.{◌≡◌, ◌<◌, ◌^◌, ◌++◌, ◌∷◌, [], All, IfOk, List, length, map};
 ghost use Rattle.dk_base.specs.Values.{values_of};
 ghost use Rattle.dk_base.specs.declared.values.Value.{Value as SampleValue};
-ghost use Rattle.dk_fits.specs.Laws.{IsSample};
 ghost use Rattle.dk_hierarchy.specs.Samples.{all_vars_of};
 ghost use Rattle.dk_implications.specs.Conditions.{base_bools, is_base_bool};
 ghost use Rattle.dk_implications.specs.Standing.{AreOver, HalvesStandFor, StandFor};
+ghost use Rattle.dk_instances.specs.Laws.{IsSample};
 
 use crate::Halves;
 use crate::halves::feed_all;

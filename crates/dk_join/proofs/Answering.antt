@@ -7,8 +7,8 @@ use Rattle.dk_base.specs.declared.values.Value.{Value}
 use Rattle.dk_engine.proofs.Memories.{texts_want}
 use Rattle.dk_engine.proofs.Readings.{agree_read_is_agreement, count_read_is_count, reading_is_fit, row_is}
 use Rattle.dk_engine.specs.Reading.{agree_read, count_read, state_read}
-use Rattle.dk_fits.proofs.Fitting.{count_of_both, fit_of_both}
-use Rattle.dk_fits.specs.Fits.{fit}
+use Rattle.dk_instances.proofs.Fitting.{count_of_both, fit_of_both}
+use Rattle.dk_instances.specs.Fits.{fit}
 use Rattle.dk_presence.specs.Patterns.{capped, count_of}
 use Rattle.dk_samples.specs.Samples.{value_in}
 use Rattle.dk_template.specs.Joins.{joined}

@@ -20,11 +20,11 @@ use Rattle.dk_engine.proofs.LevelFacts.{read_some}
 use Rattle.dk_engine.specs.Parts.{all_known, known_tuple, leader_of, slot_at}
 use Rattle.dk_engine.specs.Reading.{read_leaders, read_slot, state_of_one, state_read}
 use Rattle.dk_engine.specs.declared.kept.Kept.{Kept}
-use Rattle.dk_fits.proofs.Pushing.{fit_of_one}
-use Rattle.dk_fits.proofs.Turning.{fits_turn}
-use Rattle.dk_fits.specs.Fits.{fit, tuple_in}
 use Rattle.dk_forms.specs.Plain.{plain_of}
 use Rattle.dk_forms.specs.declared.states.State.TheVariants.{Broken}
+use Rattle.dk_instances.proofs.Pushing.{fit_of_one}
+use Rattle.dk_instances.proofs.Turning.{fits_turn}
+use Rattle.dk_instances.specs.Fits.{fit, tuple_in}
 use Rattle.dk_meanings.proofs.RowLaws.{plain_rows}
 use Rattle.dk_meanings.specs.Meanings.{meanings, relation_of, state_of}
 use Rattle.dk_presence.specs.Patterns.{counted_by}

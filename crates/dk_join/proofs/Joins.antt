@@ -8,7 +8,7 @@ use Rattle.dk_base.specs.declared.kinds.VarInfo.{VarInfo}
 use Rattle.dk_base.specs.declared.values.Value.{Value}
 use Rattle.dk_classes.specs.Leaders.{own_leaders}
 use Rattle.dk_constants.specs.Known.{Entries}
-use Rattle.dk_fits.specs.Laws.{IsSample}
+use Rattle.dk_instances.specs.Laws.{IsSample}
 use Rattle.dk_parts.specs.Classes.{classes_of}
 use Rattle.dk_parts.specs.Entries.{all_known_of}
 use Rattle.dk_parts.specs.Patterns.{patterns_of}

@@ -10,8 +10,8 @@ use Rattle.dk_engine.specs.Parts.{all_known, is_slot_of, known_tuple, leaders_of
 use Rattle.dk_engine.specs.Reading.{read_leaders, read_slot, read_written, state_of_one, state_read}
 use Rattle.dk_engine.specs.declared.kept.Kept.{Kept}
 use Rattle.dk_engine.specs.declared.slot.Slot.{Slot}
-use Rattle.dk_fits.specs.Instances.{Precedes}
 use Rattle.dk_forms.specs.declared.states.State.{State}
+use Rattle.dk_instances.specs.Instances.{Precedes}
 use Rattle.dk_presence.proofs.Sameness.{same_vars-true}
 use Rattle.dk_presence.specs.Patterns.{counted_by, same_vars}
 use Rattle.dk_suppress.specs.Rules.{is_suppressed}

@@ -3,9 +3,9 @@ use Rattle.std.specs.Prelude.{◌≡◌, ◌<◌, ◌&&◌, ◌||◌, ◌==◌, 
 use Rattle.std.specs.List.{list_all, list_any}
 use Rattle.std.proofs.Common.{◌∙◌, ap, arith, inl, inr, subst, sym}
 use Rattle.std.proofs.lemmas.Bool.{and_parts, cases_Bool, eqb-false}
-use Rattle.dk_fits.proofs.Members.{append_cases, in_flat, of_flat}
 use Rattle.dk_forms.proofs.Summaries.{IsIn-append_left, IsIn-append_right}
 use Rattle.dk_forms.specs.Laws.{IsIn}
+use Rattle.dk_instances.proofs.Members.{append_cases, in_flat, of_flat}
 use Rattle.dk_suppress.specs.Rules.{Rule, rules}
 use Rattle.dk_template.specs.Premises.{roles_read, row_of}
 use Rattle.dk_template.specs.Templates.{arity_of, rows, template_of}

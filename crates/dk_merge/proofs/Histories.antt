@@ -17,7 +17,7 @@ use Rattle.dk_derive.specs.Values.{values_by_form}
 use Rattle.dk_engine.specs.Exact.{AreSamples}
 use Rattle.dk_events.specs.declared.ended.Ended.{Ended}
 use Rattle.dk_events.specs.declared.ended.Ended.TheVariants.{Done, Refused, NoMemory}
-use Rattle.dk_fits.specs.Laws.{IsSample}
+use Rattle.dk_instances.specs.Laws.{IsSample}
 use Rattle.dk_hierarchy.specs.Samples.{OwnSamples, all_vars_of, own_samples_of}
 use Rattle.dk_io.specs.Outside.{Holds}
 use Rattle.dk_merging.proofs.EnginesOfBoth.{own_at_both}

@@ -13,7 +13,7 @@ use Rattle.dk_engine.specs.Exact.{AreOfPoint, AreSamples, IsKeptOf}
 use Rattle.dk_engine.specs.Levels.{Whole}
 use Rattle.dk_engine.specs.Saved.{AreSavedParts, parts_of}
 use Rattle.dk_engine.specs.declared.kept.Kept.{Kept}
-use Rattle.dk_fits.specs.Laws.{IsSample}
+use Rattle.dk_instances.specs.Laws.{IsSample}
 use Rattle.dk_graph.proofs.Places.{some-injective}
 use Rattle.dk_hierarchy.specs.Samples.{OwnSamples, all_vars_of, own_samples_of}
 use Rattle.dk_hierarchy.specs.Standing.{AreEnginesOf}

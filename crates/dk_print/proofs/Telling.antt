@@ -9,8 +9,8 @@ use Rattle.dk_base.specs.declared.kinds.VarId.{VarId}
 use Rattle.dk_base.specs.declared.kinds.VarInfo.{VarInfo}
 use Rattle.dk_filters.proofs.Asked.{admitted-there}
 use Rattle.dk_filters.specs.Facts.{info_at, no_info}
-use Rattle.dk_fits.proofs.Whole.{kind_alike}
-use Rattle.dk_fits.specs.Instances.{IsInstance, are_distinct}
+use Rattle.dk_instances.proofs.Whole.{kind_alike}
+use Rattle.dk_instances.specs.Instances.{IsInstance, are_distinct}
 use Rattle.dk_forms.specs.declared.states.State.{State}
 use Rattle.dk_template.proofs.WrittenTuples.{admitted_arity}
 use Rattle.dk_template.specs.Admitted.{admits, is_written, suits}

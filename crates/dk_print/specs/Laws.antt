@@ -4,9 +4,9 @@ use Rattle.dk_base.specs.Items.{is_text}
 use Rattle.dk_base.specs.declared.kinds.VarId.{VarId}
 use Rattle.dk_base.specs.declared.kinds.VarInfo.{VarInfo}
 use Rattle.dk_filters.specs.Facts.{info_at}
-use Rattle.dk_fits.specs.Instances.{IsInstance}
 use Rattle.dk_forms.specs.declared.states.State.{State}
 use Rattle.dk_forms.specs.declared.states.State.TheVariants as state
+use Rattle.dk_instances.specs.Instances.{IsInstance}
 use Rattle.dk_template.specs.Templates.{IsRow, role_kinds}
 use Rattle.dk_template.specs.declared.grammar.Grammar.{Grammar}
 use Rattle.dk_template.specs.declared.grammar.RowId.{RowId}

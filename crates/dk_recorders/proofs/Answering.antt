@@ -12,13 +12,13 @@ use Rattle.dk_base.specs.declared.values.Value.{Value}
 use Rattle.dk_filters.specs.Answers.{Answers}
 use Rattle.dk_filters.specs.Facts.{info_at}
 use Rattle.dk_filters.specs.OfSamples.{agrees, answers_of}
-use Rattle.dk_fits.proofs.Fitting.{fit_of_set}
-use Rattle.dk_fits.proofs.Members.{contained, in_filter, in_map, is_in, of_filter, of_map}
-use Rattle.dk_fits.specs.Fits.{fit, is_whole, tuple_in, tuples_of}
 use Rattle.dk_forms.proofs.PlainLaws.{plain_summary}
 use Rattle.dk_forms.specs.Laws.{IsIn, SameSet}
 use Rattle.dk_forms.specs.Plain.{plain_of}
 use Rattle.dk_forms.specs.declared.states.State.{State}
+use Rattle.dk_instances.proofs.Fitting.{fit_of_set}
+use Rattle.dk_instances.proofs.Members.{contained, in_filter, in_map, is_in, of_filter, of_map}
+use Rattle.dk_instances.specs.Fits.{fit, is_whole, tuple_in, tuples_of}
 use Rattle.dk_meanings.specs.Meaning.{Meaning, relation, state_by}
 use Rattle.dk_meanings.specs.Meanings.{meanings, state_of}
 use Rattle.dk_presence.specs.Patterns.{capped, count_of}

@@ -13,7 +13,7 @@ use Rattle.dk_base.specs.declared.kinds.VarInfo.{VarInfo}
 use Rattle.dk_base.specs.declared.values.View.{View}
 use Rattle.dk_engine.proofs.OfKinds.{value_got}
 use Rattle.dk_engine.specs.Exact.{AreOfPoint}
-use Rattle.dk_fits.specs.Laws.{IsSample}
+use Rattle.dk_instances.specs.Laws.{IsSample}
 use Rattle.dk_replay.specs.Samples.{samples_of}
 
 -- a base variable behind another one wants that one to be a base one

@@ -10,11 +10,11 @@ use Rattle.dk_base.specs.Values.{values_of}
 use Rattle.dk_base.specs.declared.kinds.VarId.{VarId}
 use Rattle.dk_base.specs.declared.values.Value.{Value}
 use Rattle.dk_base.specs.declared.values.View.{View}
-use Rattle.dk_fits.proofs.Fitting.{count_of_both}
-use Rattle.dk_fits.proofs.Pushing.{fit_push}
-use Rattle.dk_fits.specs.Fits.{fit}
 use Rattle.dk_forms.specs.declared.states.State.{State}
 use Rattle.dk_grammar.specs.Runs.{with_sample}
+use Rattle.dk_instances.proofs.Fitting.{count_of_both}
+use Rattle.dk_instances.proofs.Pushing.{fit_push}
+use Rattle.dk_instances.specs.Fits.{fit}
 use Rattle.dk_presence.specs.Patterns.{capped, count_of}
 use Rattle.dk_replay.specs.Samples.{samples_of}
 use Rattle.dk_samples.specs.Samples.{is_present, value_in}

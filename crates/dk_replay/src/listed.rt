@@ -2,9 +2,9 @@
 ghost use Rattle.std.specs.Prelude.{◌≡◌, ◌<◌, ◌^◌, ◌∷◌, [], true, if◌then◌else◌, All, IfOk, IsTrue, OnErr, length};
 ghost use Rattle.std.specs.List.{list_all};
 ghost use Rattle.dk_base.specs.Values.{values_of};
-ghost use Rattle.dk_fits.specs.Fits.{is_whole, tuple_in};
-ghost use Rattle.dk_fits.specs.Laws.{IsSample};
 ghost use Rattle.dk_grammar.specs.Runs.{with_sample};
+ghost use Rattle.dk_instances.specs.Fits.{is_whole, tuple_in};
+ghost use Rattle.dk_instances.specs.Laws.{IsSample};
 ghost use Rattle.dk_meanings.specs.Meanings.{state_of};
 ghost use Rattle.dk_replay.specs.Samples.{are_of_one_kind, samples_of};
 ghost use Rattle.dk_samples.specs.Samples.{is_present as is_value, value_in};
@@ -33,7 +33,7 @@ pub struct Listed<'a, 'v> {
 
 impl<'a, 'v> Model for Listed<'a, 'v> {
     ghost use Rattle.std.specs.Prelude.{◌<◌, ◌^◌, All, length};
-    ghost use Rattle.dk_fits.specs.Laws.{IsSample};
+    ghost use Rattle.dk_instances.specs.Laws.{IsSample};
     ghost use Rattle.dk_replay.specs.Samples.{Fed, samples_of};
 
     ghost Value = { Fed };
@@ -211,7 +211,7 @@ impl<'a, 'v> Listed<'a, 'v> {
 }
 
 impl<'a, 'v> Answers for Listed<'a, 'v> {
-    ghost use Rattle.dk_fits.specs.Fits.{fit};
+    ghost use Rattle.dk_instances.specs.Fits.{fit};
     ghost use Rattle.dk_presence.specs.Patterns.{count_of};
     ghost use Rattle.dk_replay.specs.Samples.{agree};
 

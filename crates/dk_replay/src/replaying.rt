@@ -3,7 +3,7 @@ ghost use Rattle.std.specs.Prelude.{◌≡◌, ◌<◌, ◌^◌, All, IfOk, OnOk
 ghost use Rattle.dk_base.specs.Spelling.{IsWritten};
 ghost use Rattle.dk_base.specs.Values.{values_of};
 ghost use Rattle.dk_engine.specs.Exact.{AreOfPoint};
-ghost use Rattle.dk_fits.specs.Laws.{IsSample};
+ghost use Rattle.dk_instances.specs.Laws.{IsSample};
 ghost use Rattle.dk_replay.specs.Samples.{samples_of};
 
 use crate::asking::{compare_agreements, compare_answers, compare_counts};

@@ -10,11 +10,11 @@ use Rattle.dk_filters.specs.Candidates.{candidates_kept, candidates_of}
 use Rattle.dk_filters.specs.Facts.{is_equality}
 use Rattle.dk_filters.specs.Laws.{ShowTheSame}
 use Rattle.dk_filters.specs.declared.found.PointFacts.{PointFacts}
-use Rattle.dk_fits.proofs.Listing.{row_of_grammar}
-use Rattle.dk_fits.specs.Instances.{rows_of}
 use Rattle.dk_forms.specs.Laws.{IsIn}
 use Rattle.dk_hierarchy.specs.Standing.{EnginesStandFor}
 use Rattle.dk_hierarchy.specs.declared.way.Way.{Way}
+use Rattle.dk_instances.proofs.Listing.{row_of_grammar}
+use Rattle.dk_instances.specs.Instances.{rows_of}
 use Rattle.dk_template.specs.Templates.{template_of}
 use Rattle.dk_template.specs.declared.grammar.RowId.{RowId}
 use Rattle.dk_report.proofs.Falling.{merged-falls}

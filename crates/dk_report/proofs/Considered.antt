@@ -11,9 +11,9 @@ use Rattle.dk_filters.specs.Facts.{facts_of}
 use Rattle.dk_filters.specs.Parents.{answers_by}
 use Rattle.dk_filters.specs.declared.candidate.Candidate.{Candidate}
 use Rattle.dk_filters.specs.declared.facts.Facts.{Facts}
-use Rattle.dk_fits.specs.Instances.{are_distinct, is_asked}
 use Rattle.dk_forms.specs.declared.states.State.{State}
 use Rattle.dk_hierarchy.specs.Merging.{merged_agree, merged_count, merged_state}
+use Rattle.dk_instances.specs.Instances.{are_distinct, is_asked}
 use Rattle.dk_template.specs.Admitted.{admits, is_written}
 use Rattle.dk_template.specs.Fitting.{fits}
 use Rattle.dk_template.specs.Premises.{AreThere}

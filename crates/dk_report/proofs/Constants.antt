@@ -11,9 +11,9 @@ use Rattle.dk_base.specs.declared.kinds.VarId.{VarId}
 use Rattle.dk_base.specs.declared.values.Value.{Value}
 use Rattle.dk_constants.specs.Constants.{AreConstants, HasAlways}
 use Rattle.dk_constants.specs.Known.{Entries, EntriesAscend, entry_var_at, known_at, none_known}
-use Rattle.dk_fits.proofs.Ascending.{ascend_from_pairs, kept, pairs}
-use Rattle.dk_fits.proofs.Members.{contained, in_filter, is_in, of_filter}
 use Rattle.dk_forms.specs.Laws.{IsIn}
+use Rattle.dk_instances.proofs.Ascending.{ascend_from_pairs, kept, pairs}
+use Rattle.dk_instances.proofs.Members.{contained, in_filter, is_in, of_filter}
 use Rattle.dk_samples.proofs.Members.{same_members}
 use Rattle.dk_samples.specs.Samples.{value_in}
 use Rattle.dk_report.proofs.Leaders.{Before, one_way}

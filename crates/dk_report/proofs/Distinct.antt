@@ -7,8 +7,8 @@ use Rattle.std.proofs.lemmas.List.{length-map}
 use Rattle.std.proofs.lemmas.List.Elements.{All-from_recursion, recursion_from_All, All-filter, All-contains, filter_passes}
 use Rattle.std.proofs.lemmas.Map.Keys.{IsDistinct-head, IsDistinct-tail, IsDistinct-cons}
 use Rattle.dk_base.specs.declared.kinds.VarId.{VarId}
-use Rattle.dk_fits.proofs.Members.{contained, in_filter, of_filter, of_map}
 use Rattle.dk_forms.specs.Laws.{IsIn}
+use Rattle.dk_instances.proofs.Members.{contained, in_filter, of_filter, of_map}
 use Rattle.dk_presence.proofs.Sameness.{same_vars-refl, same_vars-true}
 use Rattle.dk_presence.proofs.Sums.{count_at, is_held, occurs_not}
 use Rattle.dk_presence.specs.Patterns.{AreCounted, AreHeld, held_patterns, pattern_count, same_vars, times}

@@ -13,8 +13,6 @@ use Rattle.dk_derive.specs.Partners.{partner_with_derived}
 use Rattle.dk_derive.specs.Vars.{with_derived_vars}
 use Rattle.dk_filters.specs.Candidates.{candidates_of}
 use Rattle.dk_filters.specs.Facts.{facts_of}
-use Rattle.dk_fits.specs.Fits.{fit}
-use Rattle.dk_fits.specs.Instances.{instances_of}
 use Rattle.dk_forms.specs.Distinct.{put}
 use Rattle.dk_forms.specs.Line.{through}
 use Rattle.dk_forms.specs.Modulus.{class, remainder}
@@ -22,6 +20,8 @@ use Rattle.dk_forms.specs.Plane.{plane_from, plane_through}
 use Rattle.dk_graph.specs.Graphs.{depth_of, edges, edges_from, edges_into, links}
 use Rattle.dk_graph.specs.Names.{place_of}
 use Rattle.dk_hierarchy.specs.Samples.{OwnSamples, partners_of, samples_of}
+use Rattle.dk_instances.specs.Fits.{fit}
+use Rattle.dk_instances.specs.Instances.{instances_of}
 use Rattle.dk_meanings.specs.Meanings.{meanings, state_of}
 use Rattle.dk_points.specs.Links.{kept_edges, nodes}
 use Rattle.dk_points.specs.Names.{method_len, role_of}

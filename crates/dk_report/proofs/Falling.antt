@@ -10,11 +10,11 @@ use Rattle.dk_engine.specs.Parts.{leader_of, leaders_of}
 use Rattle.dk_engine.specs.Reading.{count_read}
 use Rattle.dk_engine.specs.declared.kept.Kept.{Kept}
 use Rattle.dk_filters.specs.Answers.{Answers}
-use Rattle.dk_fits.proofs.Members.{in_map}
 use Rattle.dk_forms.specs.Laws.{IsIn}
 use Rattle.dk_hierarchy.specs.Edges.{partner_at, partners_at}
 use Rattle.dk_hierarchy.specs.Merging.{Joint, count_through, engine_at, merged_count}
 use Rattle.dk_hierarchy.specs.declared.way.Way.{Way}
+use Rattle.dk_instances.proofs.Members.{in_map}
 use Rattle.dk_presence.specs.Patterns.{capped, counted_by, has, has_all}
 use Rattle.dk_presence.specs.declared.held.Held.{Held}
 

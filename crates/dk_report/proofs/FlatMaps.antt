@@ -3,7 +3,7 @@ use Rattle.std.specs.Prelude.{◌≡◌, ℕ, suc, Bool, true, false, List, [], 
 use Rattle.std.proofs.Common.{ap, append-nil, ◌∙◌, sym}
 use Rattle.std.proofs.lemmas.List.Concat.{flat_map-append}
 use Rattle.std.proofs.lemmas.List.Folds.{flat_map-map}
-use Rattle.dk_fits.specs.Instances.{tuples_over}
+use Rattle.dk_instances.specs.Instances.{tuples_over}
 use Rattle.dk_base.specs.declared.kinds.VarId.{VarId}
 
 pub flat_map-same : {A B : Type 0} (f g : A → List B) → ((x : A) → f x ≡ g x) → (xs : List A) → flat_map f xs ≡ flat_map g xs

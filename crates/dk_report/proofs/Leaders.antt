@@ -14,10 +14,10 @@ use Rattle.dk_classes.specs.Leaders.{leader_at, own_leaders}
 use Rattle.dk_filters.proofs.Agreeing.{agrees_is_agreement}
 use Rattle.dk_filters.specs.Facts.{no_info}
 use Rattle.dk_filters.specs.OfSamples.{agrees}
-use Rattle.dk_fits.proofs.Ascending.{along, kept, numbers, pairs}
-use Rattle.dk_fits.proofs.Members.{contained, in_filter, in_map, in_range, is_in, of_filter, of_map, of_range}
-use Rattle.dk_fits.specs.Instances.{all_vars}
 use Rattle.dk_forms.specs.Laws.{IsIn}
+use Rattle.dk_instances.proofs.Ascending.{along, kept, numbers, pairs}
+use Rattle.dk_instances.proofs.Members.{contained, in_filter, in_map, in_range, is_in, of_filter, of_map, of_range}
+use Rattle.dk_instances.specs.Instances.{all_vars}
 use Rattle.dk_samples.proofs.Members.{same_members}
 use Rattle.dk_report.specs.Sizes.{leads, own_leaders_in}
 

@@ -16,14 +16,14 @@ use Rattle.dk_engine.specs.Exact.{IsKeptOf}
 use Rattle.dk_engine.specs.Parts.{all_known, known_tuple}
 use Rattle.dk_engine.specs.declared.kept.Kept.{Kept}
 use Rattle.dk_engine.specs.declared.slot.Slot.{Slot}
-use Rattle.dk_fits.proofs.Fitting.{fit_of_none}
-use Rattle.dk_fits.proofs.Members.{in_filter, is_in}
-use Rattle.dk_fits.proofs.Pushing.{fit_of_one}
-use Rattle.dk_fits.specs.Fits.{fit, is_whole}
-use Rattle.dk_fits.specs.Instances.{are_distinct, is_asked}
 use Rattle.dk_forms.specs.Laws.{IsIn}
 use Rattle.dk_forms.specs.declared.states.State.{State}
 use Rattle.dk_forms.specs.declared.states.State.TheVariants.{Broken, Empty}
+use Rattle.dk_instances.proofs.Fitting.{fit_of_none}
+use Rattle.dk_instances.proofs.Members.{in_filter, is_in}
+use Rattle.dk_instances.proofs.Pushing.{fit_of_one}
+use Rattle.dk_instances.specs.Fits.{fit, is_whole}
+use Rattle.dk_instances.specs.Instances.{are_distinct, is_asked}
 use Rattle.dk_meanings.specs.Meanings.{state_of}
 use Rattle.dk_presence.specs.Patterns.{has}
 use Rattle.dk_samples.specs.Samples.{is_present}

@@ -11,8 +11,8 @@ use Rattle.dk_filters.specs.Answers.{Answers, Parent}
 use Rattle.dk_filters.specs.Candidates.{candidate_of, candidates_of, it_holds, candidates_kept}
 use Rattle.dk_filters.specs.Facts.{is_equality}
 use Rattle.dk_filters.specs.declared.candidate.Candidate.{Candidate}
-use Rattle.dk_fits.proofs.Listing.{row_of_grammar}
-use Rattle.dk_fits.specs.Instances.{IsInstance, is_asked, rows_of}
+use Rattle.dk_instances.proofs.Listing.{row_of_grammar}
+use Rattle.dk_instances.specs.Instances.{IsInstance, is_asked, rows_of}
 use Rattle.dk_forms.specs.Laws.{IsIn}
 use Rattle.dk_template.specs.Templates.{IsRowOf, template_of}
 use Rattle.dk_template.specs.declared.grammar.Grammar.{Grammar}

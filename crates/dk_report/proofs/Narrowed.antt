@@ -23,12 +23,12 @@ use Rattle.dk_filters.specs.Laws.{ShowTheSame, TellTheSame}
 use Rattle.dk_filters.specs.OfSamples.{answers_of}
 use Rattle.dk_filters.specs.declared.candidate.Candidate.{Candidate}
 use Rattle.dk_filters.specs.declared.facts.Facts.{Facts}
-use Rattle.dk_fits.proofs.Ascending.{along, ascend_from_pairs, kept as kept_ascend, numbers, pairs, tuples as tuples_ascend, weaker}
-use Rattle.dk_fits.proofs.Listing.{in_tuples, of_tuples}
-use Rattle.dk_fits.proofs.Members.{contained, in_filter, in_map, is_in, of_filter, of_map}
-use Rattle.dk_fits.specs.Fits.{fit}
-use Rattle.dk_fits.specs.Instances.{ComesBefore, Precedes, all_vars, are_distinct, is_asked, tuples_over}
 use Rattle.dk_forms.specs.Laws.{IsIn}
+use Rattle.dk_instances.proofs.Ascending.{along, ascend_from_pairs, kept as kept_ascend, numbers, pairs, tuples as tuples_ascend, weaker}
+use Rattle.dk_instances.proofs.Listing.{in_tuples, of_tuples}
+use Rattle.dk_instances.proofs.Members.{contained, in_filter, in_map, is_in, of_filter, of_map}
+use Rattle.dk_instances.specs.Fits.{fit}
+use Rattle.dk_instances.specs.Instances.{ComesBefore, Precedes, all_vars, are_distinct, is_asked, tuples_over}
 use Rattle.dk_presence.proofs.Refining.{contains-has}
 use Rattle.dk_presence.specs.Patterns.{has}
 use Rattle.dk_samples.proofs.Members.{same_members}

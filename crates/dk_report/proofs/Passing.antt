@@ -14,9 +14,9 @@ use Rattle.dk_filters.specs.Candidates.{candidate_of, it_holds}
 use Rattle.dk_filters.specs.Facts.{facts_of, first_like, has_few_samples, is_equality, tells_member_by}
 use Rattle.dk_filters.specs.Found.{first_in, found_of, one_value_in}
 use Rattle.dk_filters.specs.declared.facts.Facts.{Facts}
-use Rattle.dk_fits.proofs.Members.{is_in}
-use Rattle.dk_fits.specs.Instances.{all_vars, are_distinct, is_asked}
 use Rattle.dk_forms.specs.Laws.{IsIn}
+use Rattle.dk_instances.proofs.Members.{is_in}
+use Rattle.dk_instances.specs.Instances.{all_vars, are_distinct, is_asked}
 use Rattle.dk_presence.specs.Patterns.{has}
 use Rattle.dk_template.specs.Admitted.{admits, is_written}
 use Rattle.dk_template.specs.declared.grammar.RowId.{RowId}

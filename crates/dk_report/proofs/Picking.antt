@@ -5,9 +5,9 @@ use Rattle.std.proofs.Common.{◌∙◌, ap, arith, inl, inr, subst, sym}
 use Rattle.std.proofs.lemmas.Bool.{and_parts, eq-eqb, not-true, true≢false}
 use Rattle.std.proofs.lemmas.List.{get_or-map}
 use Rattle.dk_base.specs.declared.kinds.VarId.{VarId}
-use Rattle.dk_fits.proofs.Members.{of_map}
-use Rattle.dk_fits.specs.Instances.{are_distinct}
 use Rattle.dk_forms.specs.Laws.{IsIn}
+use Rattle.dk_instances.proofs.Members.{of_map}
+use Rattle.dk_instances.specs.Instances.{are_distinct}
 use Rattle.dk_template.specs.Exchange.{arrange_tuple, descends, exchange, order_tuple, written_order}
 use Rattle.dk_template.specs.Premises.{at_role}
 use Rattle.dk_template.specs.Templates.{template_of}

@@ -12,7 +12,7 @@ use Rattle.dk_filters.specs.Laws.{ShowTheSame}
 use Rattle.dk_filters.specs.Parents.{IsViewOf}
 use Rattle.dk_filters.specs.declared.candidate.Candidate.{Candidate}
 use Rattle.dk_filters.specs.declared.parents.ParentView.{ParentView}
-use Rattle.dk_fits.proofs.Fitting.{count_of_none}
+use Rattle.dk_instances.proofs.Fitting.{count_of_none}
 use Rattle.dk_graph.specs.Graphs.{edges_from}
 use Rattle.dk_hierarchy.specs.Merging.{Joint}
 use Rattle.dk_hierarchy.specs.Samples.{OwnSamples, all_vars_of, own_samples_of, samples_of}

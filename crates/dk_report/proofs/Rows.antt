@@ -8,7 +8,7 @@ use Rattle.dk_filters.specs.Answers.{Answers, Parent}
 use Rattle.dk_filters.specs.Facts.{is_equality}
 use Rattle.dk_filters.specs.Found.{first_in, found_of}
 use Rattle.dk_filters.specs.declared.candidate.Candidate.{Candidate}
-use Rattle.dk_fits.specs.Instances.{all_vars, tuples_over}
+use Rattle.dk_instances.specs.Instances.{all_vars, tuples_over}
 use Rattle.dk_forms.specs.Laws.{IsIn}
 use Rattle.dk_template.specs.Admitted.{suit, suits}
 use Rattle.dk_template.specs.Templates.{arity_of, roles_of, template_of}

@@ -13,8 +13,8 @@ use Rattle.dk_engine.specs.Levels.{Whole}
 use Rattle.dk_engine.specs.Parts.{leader_of}
 use Rattle.dk_engine.specs.Reading.{agree_read}
 use Rattle.dk_engine.specs.declared.kept.Kept.{Kept}
-use Rattle.dk_fits.proofs.Members.{contained, in_map}
-use Rattle.dk_fits.specs.Instances.{rows_of}
+use Rattle.dk_instances.proofs.Members.{contained, in_map}
+use Rattle.dk_instances.specs.Instances.{rows_of}
 use Rattle.dk_forms.specs.Laws.{IsIn}
 use Rattle.dk_hierarchy.specs.declared.way.Way.{Way}
 use Rattle.dk_suppress.specs.Rules.{Rule, rules}

@@ -3,9 +3,9 @@ use Rattle.std.specs.Prelude.{◌≡◌, ◌+◌, ◌||◌, ℕ, suc, Bool, true
 use Rattle.std.proofs.Common.{◌∙◌, ap, arith, inl, inr}
 use Rattle.dk_base.specs.declared.kinds.VarId.{VarId}
 use Rattle.dk_engine.specs.declared.kept.Kept.{Kept}
-use Rattle.dk_fits.proofs.Listing.{row_of_grammar}
-use Rattle.dk_fits.specs.Instances.{rows_of}
 use Rattle.dk_forms.specs.Laws.{IsIn}
+use Rattle.dk_instances.proofs.Listing.{row_of_grammar}
+use Rattle.dk_instances.specs.Instances.{rows_of}
 use Rattle.dk_template.specs.declared.grammar.Grammar.{Grammar}
 use Rattle.dk_template.specs.declared.grammar.RowId.{RowId}
 use Rattle.dk_report.proofs.Told.{row-at}

@@ -9,7 +9,7 @@ use Rattle.dk_classes.proofs.OwnLeaders.{own_ascend}
 use Rattle.dk_classes.specs.Leaders.{own_leaders}
 use Rattle.dk_engine.specs.Exact.{IsKeptOf}
 use Rattle.dk_engine.specs.declared.kept.Kept.{Kept}
-use Rattle.dk_fits.specs.Instances.{rows_of}
+use Rattle.dk_instances.specs.Instances.{rows_of}
 use Rattle.dk_presence.specs.Patterns.{patterns_of}
 use Rattle.dk_template.specs.declared.grammar.Grammar.{Grammar}
 use Rattle.dk_template.specs.declared.grammar.RowId.{RowId}

@@ -15,14 +15,14 @@ use Rattle.dk_engine.specs.Feeding.{is_broken}
 use Rattle.dk_engine.specs.Parts.{all_known}
 use Rattle.dk_engine.specs.declared.kept.Kept.{Kept}
 use Rattle.dk_engine.specs.declared.slot.Slot.{Slot}
-use Rattle.dk_fits.proofs.Ascending.{Ascend, along, ascend_from_pairs, joined, kept as kept_ascend, numbers, pairs, tuples, weaker}
-use Rattle.dk_fits.proofs.Listing.{in_tuples, of_tuples, row_in, row_of_grammar}
-use Rattle.dk_fits.proofs.Members.{contained, in_filter, in_flat, in_map, is_in, of_filter, of_flat, of_map}
-use Rattle.dk_fits.specs.Fits.{fit}
-use Rattle.dk_fits.specs.Instances.{ComesBefore, Precedes, rows_of, tuples_over}
 use Rattle.dk_forms.specs.Laws.{IsIn}
 use Rattle.dk_forms.specs.declared.states.State.{State}
 use Rattle.dk_forms.specs.declared.states.State.TheVariants.{Broken}
+use Rattle.dk_instances.proofs.Ascending.{Ascend, along, ascend_from_pairs, joined, kept as kept_ascend, numbers, pairs, tuples, weaker}
+use Rattle.dk_instances.proofs.Listing.{in_tuples, of_tuples, row_in, row_of_grammar}
+use Rattle.dk_instances.proofs.Members.{contained, in_filter, in_flat, in_map, is_in, of_filter, of_flat, of_map}
+use Rattle.dk_instances.specs.Fits.{fit}
+use Rattle.dk_instances.specs.Instances.{ComesBefore, Precedes, rows_of, tuples_over}
 use Rattle.dk_samples.proofs.Members.{same_members}
 use Rattle.dk_suppress.specs.Rules.{is_suppressed}
 use Rattle.dk_template.proofs.WrittenTuples.{admitted_arity}

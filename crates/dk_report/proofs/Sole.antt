@@ -15,7 +15,6 @@ use Rattle.dk_base.specs.declared.values.Value.TheVariants as value
 use Rattle.dk_engine.specs.Exact.{IsKeptOf}
 use Rattle.dk_engine.specs.Levels.{Whole}
 use Rattle.dk_filters.proofs.Asked.{admitted-there}
-use Rattle.dk_fits.proofs.Members.{contained, of_filter}
 use Rattle.dk_forms.specs.Laws.{IsIn}
 use Rattle.dk_graph.proofs.Places.{some-injective}
 use Rattle.dk_hierarchy.proofs.Merging.{merged_stand}
@@ -26,6 +25,7 @@ use Rattle.dk_hierarchy.specs.Samples.{mapped_sample}
 use Rattle.dk_hierarchy.specs.Standing.{EnginesStandFor, JointStandsFor}
 use Rattle.dk_hierarchy.specs.Ways.{repeated_samples, samples_through, samples_through_all}
 use Rattle.dk_hierarchy.specs.declared.way.Way.{Way}
+use Rattle.dk_instances.proofs.Members.{contained, of_filter}
 use Rattle.dk_presence.specs.Patterns.{capped}
 use Rattle.dk_samples.specs.Samples.{value_in}
 use Rattle.dk_template.specs.Admitted.{admits}

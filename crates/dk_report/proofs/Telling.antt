@@ -16,11 +16,11 @@ use Rattle.dk_filters.specs.Candidates.{candidate_of, candidates_of, it_holds}
 use Rattle.dk_filters.specs.Facts.{info_at, no_info}
 use Rattle.dk_filters.specs.Laws.{ShowTheSame, TellTheSame}
 use Rattle.dk_filters.specs.OfSamples.{agrees, answers_of}
-use Rattle.dk_fits.proofs.Listing.{instances_listed}
-use Rattle.dk_fits.specs.Instances.{IsInstance, are_distinct, instances_of}
 use Rattle.dk_hierarchy.specs.Merging.{Joint, merged_agree}
 use Rattle.dk_hierarchy.specs.Samples.{OwnSamples, own_samples_of, samples_of}
 use Rattle.dk_hierarchy.specs.Standing.{AreEnginesOf, EnginesStandFor, IsMergedAt, JointStandsFor}
+use Rattle.dk_instances.proofs.Listing.{instances_listed}
+use Rattle.dk_instances.specs.Instances.{IsInstance, are_distinct, instances_of}
 use Rattle.dk_points.specs.Table.{Point}
 use Rattle.dk_template.specs.Admitted.{admits, is_written}
 use Rattle.dk_template.specs.Fitting.{fits}

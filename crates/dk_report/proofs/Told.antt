@@ -15,11 +15,11 @@ use Rattle.dk_engine.specs.Parts.{all_known, known_tuple, slot_at}
 use Rattle.dk_engine.specs.Reading.{read_leaders, read_slot, read_written, state_of_one}
 use Rattle.dk_engine.specs.declared.kept.Kept.{Kept}
 use Rattle.dk_engine.specs.declared.slot.Slot.{Slot}
-use Rattle.dk_fits.proofs.Members.{in_filter, in_map, is_in}
-use Rattle.dk_fits.specs.Instances.{are_distinct, rows_of}
 use Rattle.dk_forms.specs.Laws.{IsIn}
 use Rattle.dk_forms.specs.declared.states.State.{State}
 use Rattle.dk_forms.specs.declared.states.State.TheVariants.{Broken}
+use Rattle.dk_instances.proofs.Members.{in_filter, in_map, is_in}
+use Rattle.dk_instances.specs.Instances.{are_distinct, rows_of}
 use Rattle.dk_presence.specs.Patterns.{counted_by, has}
 use Rattle.dk_suppress.specs.Rules.{Rule, is_suppressed, rules}
 use Rattle.dk_template.proofs.WrittenTuples.{few_roles}

@@ -16,9 +16,9 @@ use Rattle.dk_filters.specs.Found.{first_in, found_of}
 use Rattle.dk_filters.specs.declared.candidate.Candidate.{Candidate}
 use Rattle.dk_filters.specs.declared.found.PointFacts.{PointFacts}
 use Rattle.dk_filters.proofs.Asked.{admitted-there}
-use Rattle.dk_fits.proofs.Members.{contained, in_filter, of_filter}
-use Rattle.dk_fits.proofs.Listing.{row_of_grammar}
-use Rattle.dk_fits.specs.Instances.{all_vars, are_distinct, is_asked, rows_of}
+use Rattle.dk_instances.proofs.Members.{contained, in_filter, of_filter}
+use Rattle.dk_instances.proofs.Listing.{row_of_grammar}
+use Rattle.dk_instances.specs.Instances.{all_vars, are_distinct, is_asked, rows_of}
 use Rattle.dk_forms.specs.Known.{Known, both, nothing, broken, fact}
 use Rattle.dk_forms.specs.Laws.{IsIn}
 use Rattle.dk_forms.specs.declared.states.State.{State}

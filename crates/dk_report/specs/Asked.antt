@@ -7,8 +7,8 @@ use Rattle.dk_filters.specs.Found.{found_of}
 use Rattle.dk_filters.specs.Parents.{IsViewOf, answers_by, parent_shown}
 use Rattle.dk_filters.specs.declared.candidate.Candidate.{Candidate}
 use Rattle.dk_filters.specs.declared.parents.ParentView.{ParentView}
-use Rattle.dk_fits.specs.Instances.{all_vars}
 use Rattle.dk_hierarchy.specs.Merging.{Joint, merged_agree, merged_count, merged_state}
+use Rattle.dk_instances.specs.Instances.{all_vars}
 use Rattle.dk_template.specs.Templates.{arity_of, template_of}
 use Rattle.dk_template.specs.declared.grammar.RowId.{RowId}
 use Rattle.dk_report.specs.Listing.{listed_candidates, may_equal, may_lead, may_stand}

@@ -6,7 +6,7 @@ use Rattle.dk_filters.specs.Candidates.{candidate_of, it_holds}
 use Rattle.dk_filters.specs.Found.{first_in, one_value_in}
 use Rattle.dk_filters.specs.declared.candidate.Candidate.{Candidate}
 use Rattle.dk_filters.specs.declared.found.PointFacts.{PointFacts}
-use Rattle.dk_fits.specs.Instances.{all_vars, is_asked, tuples_over}
+use Rattle.dk_instances.specs.Instances.{all_vars, is_asked, tuples_over}
 use Rattle.dk_presence.specs.Patterns.{has}
 use Rattle.dk_template.specs.Templates.{arity_of}
 use Rattle.dk_template.specs.declared.grammar.RowId.{RowId}

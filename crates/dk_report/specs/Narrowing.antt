@@ -12,9 +12,9 @@ use Rattle.dk_engine.specs.declared.kept.Kept.{Kept}
 use Rattle.dk_engine.specs.declared.slot.Slot.{Slot}
 use Rattle.dk_filters.specs.Facts.{is_equality}
 use Rattle.dk_filters.specs.declared.candidate.Candidate.{Candidate}
-use Rattle.dk_fits.specs.Instances.{are_distinct}
 use Rattle.dk_hierarchy.specs.Merging.{AreWays, Joint}
 use Rattle.dk_hierarchy.specs.declared.way.Way.{Way}
+use Rattle.dk_instances.specs.Instances.{are_distinct}
 use Rattle.dk_presence.specs.Patterns.{has}
 use Rattle.dk_samples.specs.Samples.{is_present}
 use Rattle.dk_template.specs.Admitted.{suits}

@@ -10,8 +10,8 @@ use Rattle.dk_engine.specs.Feeding.{is_broken}
 use Rattle.dk_engine.specs.declared.counts.Counts.{Counts}
 use Rattle.dk_engine.specs.declared.kept.Kept.{Kept}
 use Rattle.dk_filters.specs.OfSamples.{agrees}
-use Rattle.dk_fits.specs.Fits.{fit}
-use Rattle.dk_fits.specs.Instances.{all_vars, rows_of, tuples_over}
+use Rattle.dk_instances.specs.Fits.{fit}
+use Rattle.dk_instances.specs.Instances.{all_vars, rows_of, tuples_over}
 use Rattle.dk_hierarchy.specs.Samples.{OwnSamples, all_vars_of, own_samples_of}
 use Rattle.dk_points.specs.Table.{Point}
 use Rattle.dk_base.specs.SameValues.{same_value}

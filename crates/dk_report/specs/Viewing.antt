@@ -12,11 +12,11 @@ use Rattle.dk_engine.specs.Reading.{rank_bound}
 use Rattle.dk_engine.specs.declared.kept.Kept.{Kept}
 use Rattle.dk_engine.specs.declared.slot.Slot.{Slot}
 use Rattle.dk_filters.specs.declared.candidate.Candidate.{Candidate}
-use Rattle.dk_fits.specs.Instances.{are_distinct, rows_of}
 use Rattle.dk_forms.specs.Laws.{IsIn}
 use Rattle.dk_hierarchy.specs.Edges.{partner_at}
 use Rattle.dk_hierarchy.specs.Merging.{Joint}
 use Rattle.dk_hierarchy.specs.declared.way.Way.{Way}
+use Rattle.dk_instances.specs.Instances.{are_distinct, rows_of}
 use Rattle.dk_presence.specs.Patterns.{has}
 use Rattle.dk_suppress.specs.Rules.{Rule, rules}
 use Rattle.dk_template.specs.Premises.{roles_read, row_of}

@@ -4,7 +4,7 @@ ghost use Rattle.std.specs.Prelude.{◌≡◌, ◌<◌, ◌^◌, ◌++◌, ◌||
 ghost use Rattle.std.specs.List.{AllZip, list_any};
 ghost use Rattle.dk_base.specs.Shapes.{var};
 ghost use Rattle.dk_base.specs.declared.values.Value.{Value as SampleValue};
-ghost use Rattle.dk_fits.specs.Instances.{IsInstance, rows_of};
+ghost use Rattle.dk_instances.specs.Instances.{IsInstance, rows_of};
 ghost use Rattle.dk_filters.specs.Answers.{Parent};
 ghost use Rattle.dk_filters.specs.Candidates.{candidates_kept, candidates_of};
 ghost use Rattle.dk_filters.specs.Laws.{ShowTheSame};

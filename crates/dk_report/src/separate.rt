@@ -4,8 +4,8 @@ ghost use Rattle.dk_base.specs.declared.values.Value.{Value as SampleValue};
 ghost use Rattle.dk_engine.specs.Exact.{AreOfPoint};
 ghost use Rattle.dk_filters.specs.Candidates.{candidates_kept, candidates_of};
 ghost use Rattle.dk_filters.specs.OfSamples.{answers_of};
-ghost use Rattle.dk_fits.specs.Instances.{IsInstance};
 ghost use Rattle.dk_hierarchy.specs.Standing.{EngineStandsFor};
+ghost use Rattle.dk_instances.specs.Instances.{IsInstance};
 ghost use Rattle.dk_report.specs.Keeping.{keeps};
 
 use crate::Options;

@@ -7,7 +7,7 @@ ghost use Rattle.dk_engine.specs.Levels.{Whole};
 ghost use Rattle.dk_engine.specs.Parts.{leader_of};
 ghost use Rattle.dk_engine.specs.Reading.{rank_bound};
 ghost use Rattle.dk_constants.specs.Known.{known_at};
-ghost use Rattle.dk_fits.specs.Instances.{rows_of};
+ghost use Rattle.dk_instances.specs.Instances.{rows_of};
 ghost use Rattle.dk_hierarchy.specs.Edges.{partner_at};
 ghost use Rattle.dk_hierarchy.specs.declared.way.Way.{Way as WholeWay};
 ghost use Rattle.dk_report.specs.Asked.{CanBeAsked};

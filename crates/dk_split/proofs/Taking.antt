@@ -11,7 +11,7 @@ use Rattle.dk_driver.specs.Consuming.{DeclaresMore, IsBehind, SamplesMore, Tells
 use Rattle.dk_events.specs.Telling.{PointsGoOn}
 use Rattle.dk_events.specs.declared.event.Event.{Event}
 use Rattle.dk_events.specs.declared.event.Event.TheVariants as event
-use Rattle.dk_fits.specs.Laws.{IsSample}
+use Rattle.dk_instances.specs.Laws.{IsSample}
 use Rattle.dk_implications.specs.Standing.{Engines}
 use Rattle.dk_hierarchy.specs.Samples.{OwnSamples, all_vars_of, own_samples_of}
 use Rattle.dk_points.specs.Table.{Point}

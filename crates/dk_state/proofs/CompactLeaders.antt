@@ -15,7 +15,7 @@ use Rattle.dk_classes.specs.Leaders.{leader_at, var}
 use Rattle.dk_filters.specs.Facts.{info_at}
 use Rattle.dk_filters.specs.OfSamples.{agrees}
 use Rattle.dk_filters.proofs.Agreeing.{agrees_is_agreement}
-use Rattle.dk_fits.specs.Instances.{all_vars}
+use Rattle.dk_instances.specs.Instances.{all_vars}
 use Rattle.dk_state.specs.Compact.{leader_in, leaders_in}
 
 kind_is : (infos : List VarInfo) (v : ℕ) → v < length infos → kind_at (var_kinds infos) v ≡ (info_at infos (var v)).kind

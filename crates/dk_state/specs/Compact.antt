@@ -12,7 +12,7 @@ use Rattle.dk_engine.specs.Feeding.{slots_of}
 use Rattle.dk_engine.specs.declared.kept.Kept.{Kept}
 use Rattle.dk_engine.specs.declared.slot.Slot.{Slot}
 use Rattle.dk_filters.specs.OfSamples.{agrees}
-use Rattle.dk_fits.specs.Instances.{all_vars}
+use Rattle.dk_instances.specs.Instances.{all_vars}
 use Rattle.dk_presence.specs.Patterns.{capped, present_in}
 use Rattle.dk_presence.specs.Steps.{with_sample_of}
 use Rattle.dk_presence.specs.declared.held.Held.{Held}

@@ -4,8 +4,8 @@ use Rattle.std.specs.List.{list_all, list_any}
 use Rattle.std.proofs.Common.{ap, ◌∙◌}
 use Rattle.dk_base.specs.declared.kinds.VarId.{VarId}
 use Rattle.dk_base.specs.declared.values.Value.{Value}
-use Rattle.dk_fits.proofs.Fitting.{fit_alike}
-use Rattle.dk_fits.specs.Laws.{AreAlike}
+use Rattle.dk_instances.proofs.Fitting.{fit_alike}
+use Rattle.dk_instances.specs.Laws.{AreAlike}
 use Rattle.dk_samples.specs.Samples.{Agree}
 use Rattle.dk_suppress.specs.Laws.{AgreeingVariablesAreSuppressedAlike}
 use Rattle.dk_suppress.specs.Rules.{Rule, rules}

@@ -19,7 +19,7 @@ use Rattle.dk_samples.specs.Samples.{is_present, value_in}
 use Rattle.dk_suppress.proofs.Saying.{Says, can_say, plain_form, premise_says}
 use Rattle.dk_suppress.proofs.TupleRules.{AreWritten, Follows, IsSound, part, rules_sound}
 use Rattle.dk_suppress.specs.Rules.{Rule, rules}
-use Rattle.dk_fits.specs.Fits.{fit, is_whole, tuple_in, tuples_of}
+use Rattle.dk_instances.specs.Fits.{fit, is_whole, tuple_in, tuples_of}
 use Rattle.dk_suppress.specs.Soundness.{RulesAreSound, SuppressedInstancesHold, fit_of, holds_of}
 use Rattle.dk_template.specs.Premises.{at_role, premise_fits, roles_read, row_of, suffices, vars_of}
 use Rattle.dk_template.specs.Templates.{arity_of, form_of, is_plain, rows}

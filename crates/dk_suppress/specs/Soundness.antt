@@ -6,7 +6,7 @@ use Rattle.dk_base.specs.declared.kinds.VarId.{VarId}
 use Rattle.dk_base.specs.declared.values.Value.{Value}
 use Rattle.dk_forms.specs.declared.states.State.{State}
 use Rattle.dk_forms.specs.declared.states.State.TheVariants as state
-use Rattle.dk_fits.specs.Fits.{fit, tuples_of}
+use Rattle.dk_instances.specs.Fits.{fit, tuples_of}
 use Rattle.dk_suppress.specs.Rules.{Rule, is_suppressed, rules}
 use Rattle.dk_template.specs.Premises.{premise_fits}
 use Rattle.dk_template.specs.Templates.{arity_of}

@@ -13,7 +13,7 @@ use Rattle.dk_claims.specs.declared.claims.Claim.{Claim}
 use Rattle.dk_engine.proofs.Readings.{row_is}
 use Rattle.dk_expr.specs.Reads.{HasNone, IsRead, told_state}
 use Rattle.dk_expr.specs.declared.assertions.Assertion.{Assertion}
-use Rattle.dk_fits.specs.Instances.{are_distinct}
+use Rattle.dk_instances.specs.Instances.{are_distinct}
 use Rattle.dk_forms.specs.declared.states.State.{State}
 use Rattle.dk_forms.specs.declared.states.State.TheVariants as state
 use Rattle.dk_graph.proofs.Links.{edge-has, place-below}

@@ -11,13 +11,13 @@ use Rattle.dk_base.specs.declared.kinds.VarId.{VarId}
 use Rattle.dk_base.specs.declared.kinds.VarInfo.{VarInfo}
 use Rattle.dk_base.specs.declared.values.Value.{Value}
 use Rattle.dk_expr.specs.declared.assertions.Assertion.{Assertion}
-use Rattle.dk_fits.proofs.Whole.{is_tuple}
-use Rattle.dk_fits.specs.Laws.{IsSample}
 use Rattle.dk_hierarchy.proofs.Partners.{partners_admitted, partners_there}
 use Rattle.dk_hierarchy.specs.Descent.{IsDescent, IsWayDown}
 use Rattle.dk_hierarchy.specs.Edges.{partners_at}
 use Rattle.dk_hierarchy.specs.Samples.{all_vars_of}
 use Rattle.dk_hierarchy.specs.declared.way.Way.{Way}
+use Rattle.dk_instances.proofs.Whole.{is_tuple}
+use Rattle.dk_instances.specs.Laws.{IsSample}
 use Rattle.dk_points.specs.Table.{Point}
 use Rattle.dk_template.proofs.WrittenTuples.{admitted_arity, admitted_few}
 use Rattle.dk_template.specs.Admitted.{admits}

@@ -9,11 +9,11 @@ use Rattle.dk_blocks.specs.Fitting.{Extends}
 use Rattle.dk_claims.specs.declared.claims.Claim.{Claim}
 use Rattle.dk_expr.specs.Violations.{IsViolated, kept_state}
 use Rattle.dk_expr.specs.declared.assertions.Assertion.{Assertion}
-use Rattle.dk_fits.proofs.Fitting.{count_of_both, fit_of_both, fit_of_none}
-use Rattle.dk_fits.specs.Fits.{fit}
 use Rattle.dk_forms.specs.declared.states.State.{State}
 use Rattle.dk_forms.specs.declared.states.State.TheVariants.{Empty}
 use Rattle.dk_hierarchy.specs.Samples.{all_vars_of}
+use Rattle.dk_instances.proofs.Fitting.{count_of_both, fit_of_both, fit_of_none}
+use Rattle.dk_instances.specs.Fits.{fit}
 use Rattle.dk_meanings.proofs.RowLaws.{laws_of}
 use Rattle.dk_meanings.specs.Meanings.{state_of}
 use Rattle.dk_points.specs.Table.{Point}

@@ -9,8 +9,6 @@ use Rattle.std.proofs.lemmas.List.Elements.{All-head, All-tail}
 use Rattle.dk_base.specs.declared.kinds.VarId.{VarId}
 use Rattle.dk_base.specs.declared.values.Value.{Value}
 use Rattle.dk_derive.specs.Values.{values_by_form}
-use Rattle.dk_fits.proofs.Fitting.{count_of_both, count_of_tuples, fit_of_both, fit_of_none, fit_of_set}
-use Rattle.dk_fits.specs.Fits.{fit}
 use Rattle.dk_forms.specs.declared.states.State.TheVariants.{Empty}
 use Rattle.dk_hierarchy.proofs.Edges.{counts, fits_through}
 use Rattle.dk_hierarchy.proofs.Telling.{count_repeated, from_repeated, in_repeated}
@@ -19,6 +17,8 @@ use Rattle.dk_hierarchy.specs.Edges.{partners_at}
 use Rattle.dk_hierarchy.specs.Samples.{all_vars_of, mapped_sample, own_samples_of, samples_of}
 use Rattle.dk_hierarchy.specs.Ways.{repeated_samples, samples_through, samples_through_all}
 use Rattle.dk_hierarchy.specs.declared.way.Way.{Way}
+use Rattle.dk_instances.proofs.Fitting.{count_of_both, count_of_tuples, fit_of_both, fit_of_none, fit_of_set}
+use Rattle.dk_instances.specs.Fits.{fit}
 use Rattle.dk_meanings.proofs.RowLaws.{laws_of}
 use Rattle.dk_meanings.specs.Meanings.{state_of}
 use Rattle.dk_points.specs.Table.{Point}

@@ -7,12 +7,12 @@ use Rattle.dk_base.specs.declared.kinds.VarId.{VarId}
 use Rattle.dk_base.specs.declared.values.Value.{Value}
 use Rattle.dk_expr.specs.Violations.{IsViolated, kept_state}
 use Rattle.dk_expr.specs.declared.assertions.Assertion.{Assertion}
-use Rattle.dk_fits.proofs.Fitting.{fit_of_set}
-use Rattle.dk_fits.specs.Fits.{fit, is_whole, tuple_in, tuples_of}
 use Rattle.dk_forms.specs.declared.states.State.{State}
 use Rattle.dk_forms.specs.declared.states.State.TheVariants.{Empty, Broken}
 use Rattle.dk_hierarchy.proofs.Telling.{from_repeated, in_repeated}
 use Rattle.dk_hierarchy.specs.Ways.{repeated_samples}
+use Rattle.dk_instances.proofs.Fitting.{fit_of_set}
+use Rattle.dk_instances.specs.Fits.{fit, is_whole, tuple_in, tuples_of}
 use Rattle.dk_meanings.proofs.RowLaws.{laws_of}
 use Rattle.dk_meanings.specs.Meanings.{state_of}
 use Rattle.dk_presence.specs.Patterns.{capped}

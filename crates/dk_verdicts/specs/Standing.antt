@@ -6,7 +6,7 @@ use Rattle.dk_claims.specs.declared.claims.Claim.{Claim}
 use Rattle.dk_engine.specs.Levels.{Whole}
 use Rattle.dk_expr.specs.Violations.{kept_state}
 use Rattle.dk_expr.specs.declared.assertions.Assertion.{Assertion}
-use Rattle.dk_fits.specs.Fits.{fit}
+use Rattle.dk_instances.specs.Fits.{fit}
 use Rattle.dk_hierarchy.specs.Samples.{all_vars_of}
 use Rattle.dk_hierarchy.specs.Standing.{AreEnginesOf}
 use Rattle.dk_points.specs.Table.{Point}

@@ -5,10 +5,10 @@ use Rattle.dk_claims.specs.declared.claims.Claim.{Claim}
 use Rattle.dk_expr.specs.Reads.{HasNone, IsRead}
 use Rattle.dk_expr.specs.Violations.{IsViolated}
 use Rattle.dk_expr.specs.declared.assertions.Assertion.{Assertion}
-use Rattle.dk_fits.specs.Fits.{fit}
 use Rattle.dk_forms.specs.declared.states.State.{State}
 use Rattle.dk_graph.specs.Names.{place_of}
 use Rattle.dk_hierarchy.specs.Samples.{all_vars_of}
+use Rattle.dk_instances.specs.Fits.{fit}
 use Rattle.dk_points.specs.Table.{Point, names}
 use Rattle.dk_presence.specs.Patterns.{count_of}
 use Rattle.dk_template.specs.Joins.{joined}

@@ -1,7 +1,7 @@
 // Testing the sample of a record.
 ghost use Rattle.std.specs.Prelude.{◌≡◌, ◌<◌, IfOk, Ok, OnOk, Result, length, true};
 ghost use Rattle.dk_base.specs.Values.{value_of, values_of};
-ghost use Rattle.dk_fits.specs.Fits.{is_whole, tuple_in};
+ghost use Rattle.dk_instances.specs.Fits.{is_whole, tuple_in};
 ghost use Rattle.dk_samples.specs.Samples.{value_in};
 ghost use Rattle.dk_template.specs.Rows.{IsTuple};
 ghost use Rattle.dk_template.specs.Templates.{role_kinds};

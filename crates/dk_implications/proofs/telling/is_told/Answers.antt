@@ -5,7 +5,7 @@ use Rattle.dk_base.specs.declared.kinds.VarId.{VarId}
 use Rattle.dk_engine.specs.Levels.{Whole}
 use Rattle.dk_filters.proofs.Asked.{admitted-there}
 use Rattle.dk_filters.specs.declared.candidate.Candidate.{Candidate}
-use Rattle.dk_fits.specs.Instances.{are_distinct}
+use Rattle.dk_instances.specs.Instances.{are_distinct}
 use Rattle.dk_template.specs.Admitted.{admits, is_written}
 use Rattle.dk_template.specs.Premises.{AreThere}
 use Rattle.dk_implications.proofs.telling.is_told.Goals as goal

@@ -3,7 +3,7 @@ use Rattle.std.proofs.Common.{subst, sym}
 use Rattle.dk_base.specs.Values.{values_of}
 use Rattle.dk_base.specs.declared.values.View.{View}
 use Rattle.dk_engine.specs.Exact.{AreOfKinds}
-use Rattle.dk_fits.specs.Laws.{IsSample}
+use Rattle.dk_instances.specs.Laws.{IsSample}
 use Rattle.dk_replay.proofs.Drawing.{sample_more}
 use Rattle.dk_replay.specs.Samples.{samples_of}
 use Rattle.dk_replay.proofs.replaying.feed.Goals as goal

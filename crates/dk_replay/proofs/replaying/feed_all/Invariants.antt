@@ -1,5 +1,5 @@
 use Rattle.std.specs.Prelude.{◌≡◌, All}
-use Rattle.dk_fits.specs.Laws.{IsSample}
+use Rattle.dk_instances.specs.Laws.{IsSample}
 use Rattle.dk_replay.specs.Samples.{samples_of}
 use Rattle.dk_replay.proofs.replaying.feed_all.Given as goal
 

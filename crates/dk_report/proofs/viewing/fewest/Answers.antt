@@ -1,5 +1,5 @@
 use Rattle.std.proofs.Common.{sym}
-use Rattle.dk_fits.proofs.Members.{is_in}
+use Rattle.dk_instances.proofs.Members.{is_in}
 use Rattle.dk_report.proofs.Rules.{view-among}
 use Rattle.dk_report.proofs.viewing.fewest.Goals as goal
 

@@ -1,5 +1,5 @@
 use Rattle.std.specs.Prelude.{◌≡◌, [], ◌∷◌, map, take}
-use Rattle.dk_fits.specs.Instances.{rows_of}
+use Rattle.dk_instances.specs.Instances.{rows_of}
 use Rattle.dk_report.specs.Viewing.{shown_row}
 use Rattle.dk_report.proofs.viewing.shown_rows.Given as goal
 

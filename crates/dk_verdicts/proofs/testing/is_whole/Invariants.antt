@@ -1,6 +1,6 @@
 use Rattle.std.specs.Prelude.{◌≡◌, drop}
 use Rattle.dk_base.specs.Values.{values_of}
-use Rattle.dk_fits.specs.Fits.{is_whole}
+use Rattle.dk_instances.specs.Fits.{is_whole}
 use Rattle.dk_verdicts.proofs.testing.is_whole.Given as goal
 
 abbrev pub invariant-loop-value : goal.invariant-loop-value

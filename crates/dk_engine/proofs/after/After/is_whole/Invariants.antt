@@ -1,6 +1,6 @@
 use Rattle.std.specs.Prelude.{◌≡◌, drop}
 use Rattle.dk_base.specs.Values.{values_of}
-use Rattle.dk_fits.specs.Fits.{is_whole, tuple_in}
+use Rattle.dk_instances.specs.Fits.{is_whole, tuple_in}
 use Rattle.dk_engine.proofs.after.After.is_whole.Given as goal
 
 abbrev pub invariant-loop-v : goal.invariant-loop-v

@@ -2,10 +2,10 @@ use Rattle.std.specs.Prelude.{◌≡◌, ◌∷◌, [], if◌then◌else◌, Lis
 use Rattle.std.proofs.Common.{ap, ◌∙◌, subst, sym}
 use Rattle.dk_base.specs.Values.{values_of}
 use Rattle.dk_base.specs.declared.values.Value.{Value}
-use Rattle.dk_fits.proofs.Whole.{is_tuple}
-use Rattle.dk_fits.specs.Fits.{is_whole, tuple_in}
-use Rattle.dk_fits.specs.Laws.{IsSample}
 use Rattle.dk_forms.specs.declared.states.State.{State}
+use Rattle.dk_instances.proofs.Whole.{is_tuple}
+use Rattle.dk_instances.specs.Fits.{is_whole, tuple_in}
+use Rattle.dk_instances.specs.Laws.{IsSample}
 use Rattle.dk_meanings.specs.Meanings.{state_of}
 use Rattle.dk_template.specs.Joins.{joined}
 use Rattle.dk_template.specs.Rows.{IsTuple}

@@ -1,6 +1,6 @@
 use Rattle.std.specs.Prelude.{◌≡◌, ◌+◌, true, false, if◌then◌else◌}
 use Rattle.std.proofs.Common.{ap, ◌∙◌, sym, arith}
-use Rattle.dk_fits.specs.Fits.{is_whole, tuple_in}
+use Rattle.dk_instances.specs.Fits.{is_whole, tuple_in}
 use Rattle.dk_presence.specs.Patterns.{capped}
 use Rattle.dk_engine.specs.Feeding.{count_after}
 use Rattle.dk_engine.specs.Levels.{OneMore}

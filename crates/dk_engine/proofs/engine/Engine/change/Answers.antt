@@ -2,7 +2,7 @@ use Rattle.std.specs.Prelude.{◌≡◌, ◌+◌, [], List, map}
 use Rattle.std.proofs.Common.{ap, rules, subst, sym, ◌∙◌}
 use Rattle.dk_base.specs.Values.{values_of}
 use Rattle.dk_classes.specs.Leaders.{own_leaders}
-use Rattle.dk_fits.specs.Laws.{IsSample}
+use Rattle.dk_instances.specs.Laws.{IsSample}
 use Rattle.dk_presence.proofs.Refining.{refined_none}
 use Rattle.dk_presence.specs.Patterns.{capped, present_in}
 use Rattle.dk_presence.specs.Steps.{refined, with_sample_of}

@@ -4,7 +4,7 @@ use Rattle.std.proofs.lemmas.List.Elements.{All-contains, Contains-get_or}
 use Rattle.std.proofs.lemmas.Result.{IfOk-weaker}
 use Rattle.dk_base.specs.Values.{values_of}
 use Rattle.dk_base.specs.declared.values.Value.{Value}
-use Rattle.dk_fits.proofs.Members.{contained, is_in, of_filter, of_map}
+use Rattle.dk_instances.proofs.Members.{contained, is_in, of_filter, of_map}
 use Rattle.dk_forms.specs.declared.states.State.{State}
 use Rattle.dk_engine.proofs.Fed.{fed_parts_exact, first_parts_exact}
 use Rattle.dk_engine.proofs.Grown.{all_behind, found_lost, found_within}

@@ -1,7 +1,7 @@
 use Rattle.std.specs.Prelude.{◌≡◌, []}
 use Rattle.std.proofs.Common.{rules, subst, sym}
 use Rattle.std.proofs.lemmas.List.Elements.{All-nil}
-use Rattle.dk_fits.specs.Laws.{IsSample}
+use Rattle.dk_instances.specs.Laws.{IsSample}
 use Rattle.dk_engine.proofs.Beginning.{is_nothing, nothing, nothing_kept}
 use Rattle.dk_engine.proofs.Turned.{parts_can_be_fed}
 use Rattle.dk_engine.proofs.PartsOfSamples.{parts_of_kept}

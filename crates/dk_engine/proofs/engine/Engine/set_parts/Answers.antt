@@ -3,7 +3,7 @@ use Rattle.std.proofs.Common.{rules, subst, sym, ◌∙◌}
 use Rattle.dk_base.specs.Values.{values_of}
 use Rattle.dk_base.specs.declared.kinds.VarId.{VarId}
 use Rattle.dk_classes.specs.Leaders.{own_leaders}
-use Rattle.dk_fits.specs.Laws.{IsSample}
+use Rattle.dk_instances.specs.Laws.{IsSample}
 use Rattle.dk_presence.specs.Patterns.{capped, present_in}
 use Rattle.dk_presence.specs.Steps.{AreUnheld, refined, with_sample_of}
 use Rattle.dk_presence.specs.declared.held.Held.{Held}

@@ -2,7 +2,7 @@ use Rattle.std.specs.Prelude.{◌≡◌, IfOk, List, true}
 use Rattle.std.proofs.Common.{ap, ◌∙◌, arith, subst, sym, rules}
 use Rattle.std.proofs.lemmas.Result.{IfOk-weaker}
 use Rattle.dk_base.specs.declared.kinds.VarId.{VarId}
-use Rattle.dk_fits.specs.Fits.{is_whole}
+use Rattle.dk_instances.specs.Fits.{is_whole}
 use Rattle.dk_template.specs.Admitted.{admits}
 use Rattle.dk_template.specs.Proper.{IsProper}
 use Rattle.dk_template.specs.Rows.{IsTuple}

@@ -3,7 +3,7 @@ use Rattle.std.specs.List.{AllPairs}
 use Rattle.std.proofs.Common.{subst, sym, ◌∙◌, ap}
 use Rattle.std.proofs.lemmas.Result.{IfOk-weaker}
 use Rattle.dk_base.specs.Values.{values_of}
-use Rattle.dk_fits.specs.Laws.{IsSample}
+use Rattle.dk_instances.specs.Laws.{IsSample}
 use Rattle.dk_engine.proofs.Emptied.{parts, slots_out, turned_with}
 use Rattle.dk_engine.proofs.Leaving.{left_formed}
 use Rattle.dk_engine.proofs.Opened.{left_numbered, merged_formed, opened_numbered}

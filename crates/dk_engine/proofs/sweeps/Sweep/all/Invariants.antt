@@ -1,5 +1,5 @@
 use Rattle.std.specs.Prelude.{◌≡◌, flat_map, take}
-use Rattle.dk_fits.specs.Instances.{rows_of}
+use Rattle.dk_instances.specs.Instances.{rows_of}
 use Rattle.dk_engine.specs.Feeding.{read_after, slots_of_row}
 use Rattle.dk_engine.proofs.sweeps.Sweep.all.Given as goal
 

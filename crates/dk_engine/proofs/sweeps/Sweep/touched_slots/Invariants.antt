@@ -1,5 +1,5 @@
 use Rattle.std.specs.Prelude.{◌≡◌, flat_map, take}
-use Rattle.dk_fits.specs.Instances.{rows_of}
+use Rattle.dk_instances.specs.Instances.{rows_of}
 use Rattle.dk_engine.specs.Feeding.{read_after}
 use Rattle.dk_engine.specs.Sweeps.{with_one}
 use Rattle.dk_engine.proofs.sweeps.Sweep.touched_slots.Given as goal

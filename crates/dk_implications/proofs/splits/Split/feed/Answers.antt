@@ -3,7 +3,7 @@ use Rattle.std.specs.List.{AllZip}
 use Rattle.std.proofs.Common.{ap, subst, sym}
 use Rattle.dk_base.specs.Values.{values_of}
 use Rattle.dk_base.specs.declared.kinds.VarInfo.{VarInfo}
-use Rattle.dk_fits.specs.Laws.{IsSample}
+use Rattle.dk_instances.specs.Laws.{IsSample}
 use Rattle.dk_report.proofs.Reported.{if_ok}
 use Rattle.dk_implications.proofs.Feeding.{fed_are, fed_stand}
 use Rattle.dk_implications.specs.Standing.{AreAlike, AreFed, Engines, StandFor}

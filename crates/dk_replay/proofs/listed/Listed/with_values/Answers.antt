@@ -1,8 +1,8 @@
 use Rattle.std.specs.Prelude.{◌≡◌}
 use Rattle.std.proofs.Common.{ap, subst, sym, ◌∙◌}
 use Rattle.dk_base.specs.Values.{values_of}
-use Rattle.dk_fits.proofs.Whole.{is_tuple}
-use Rattle.dk_fits.specs.Fits.{is_whole, tuple_in}
+use Rattle.dk_instances.proofs.Whole.{is_tuple}
+use Rattle.dk_instances.specs.Fits.{is_whole, tuple_in}
 use Rattle.dk_template.specs.Rows.{IsTuple}
 use Rattle.dk_template.specs.Templates.{role_kinds}
 use Rattle.dk_replay.proofs.listed.Listed.with_values.Goals as goal

@@ -3,9 +3,9 @@ use Rattle.std.proofs.Common.{ap, subst, sym, ◌∙◌}
 use Rattle.dk_base.specs.Values.{values_of}
 use Rattle.dk_base.specs.declared.values.View.{View}
 use Rattle.dk_engine.proofs.Readings.{row_is}
-use Rattle.dk_fits.proofs.Fitting.{fit_of_none}
-use Rattle.dk_fits.specs.Laws.{IsSample}
 use Rattle.dk_grammar.specs.Runs.{with_sample}
+use Rattle.dk_instances.proofs.Fitting.{fit_of_none}
+use Rattle.dk_instances.specs.Laws.{IsSample}
 use Rattle.dk_template.proofs.ProperStates.{proper_laws}
 use Rattle.dk_template.specs.Templates.{form_of}
 use Rattle.dk_replay.proofs.Walking.{one_of_all, state_more}

@@ -1,5 +1,5 @@
 use Rattle.std.specs.Prelude.{◌≡◌, take}
-use Rattle.dk_fits.specs.Fits.{fit}
+use Rattle.dk_instances.specs.Fits.{fit}
 use Rattle.dk_replay.specs.Samples.{samples_of}
 use Rattle.dk_template.specs.Proper.{IsProper}
 use Rattle.dk_template.specs.Templates.{form_of}

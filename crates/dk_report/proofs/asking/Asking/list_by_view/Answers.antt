@@ -1,7 +1,7 @@
 use Rattle.std.specs.Prelude.{◌≡◌, IfSome, List, flat_map}
 use Rattle.std.proofs.Common.{◌∙◌, subst, sym}
 use Rattle.dk_base.specs.declared.kinds.VarId.{VarId}
-use Rattle.dk_fits.specs.Instances.{rows_of}
+use Rattle.dk_instances.specs.Instances.{rows_of}
 use Rattle.dk_report.proofs.Reported.{if_ok}
 use Rattle.dk_report.proofs.Viewed.{viewed_is}
 use Rattle.dk_report.specs.Viewing.{IsTold, candidates_told}

@@ -3,8 +3,8 @@ use Rattle.std.proofs.Common.{◌∙◌, subst, sym}
 use Rattle.dk_engine.specs.Levels.{Whole}
 use Rattle.dk_filters.specs.Candidates.{candidates_kept, candidates_of}
 use Rattle.dk_filters.specs.declared.candidate.Candidate.{Candidate}
-use Rattle.dk_fits.specs.Instances.{rows_of}
 use Rattle.dk_hierarchy.specs.Standing.{EnginesStandFor}
+use Rattle.dk_instances.specs.Instances.{rows_of}
 use Rattle.dk_report.proofs.Alone.{narrowed_is}
 use Rattle.dk_report.proofs.Listable.{IsOne, candidates_listable, narrowed_listable}
 use Rattle.dk_report.proofs.Reported.{if_ok}

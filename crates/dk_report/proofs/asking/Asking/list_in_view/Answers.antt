@@ -2,7 +2,7 @@ use Rattle.std.specs.Prelude.{◌<◌, ◌≤◌, ◌+◌, ◌++◌, List, flat_
 use Rattle.std.proofs.Common.{ap, ◌∙◌, arith}
 use Rattle.dk_engine.proofs.Spread.{row_more, rows_all}
 use Rattle.dk_filters.specs.declared.candidate.Candidate.{Candidate}
-use Rattle.dk_fits.specs.Instances.{rows_of}
+use Rattle.dk_instances.specs.Instances.{rows_of}
 use Rattle.dk_template.specs.Templates.{rows_in}
 use Rattle.dk_template.specs.declared.grammar.Grammar.{Grammar}
 use Rattle.dk_template.specs.declared.grammar.RowId.{RowId}

@@ -1,5 +1,5 @@
 use Rattle.std.specs.Prelude.{◌≡◌, flat_map, take}
-use Rattle.dk_fits.specs.Instances.{rows_of}
+use Rattle.dk_instances.specs.Instances.{rows_of}
 use Rattle.dk_report.specs.Viewing.{candidates_told}
 use Rattle.dk_report.proofs.asking.Asking.list_in_view.Given as goal
 

@@ -2,7 +2,7 @@ use Rattle.std.specs.Prelude.{◌≡◌, List, filter, flat_map}
 use Rattle.std.proofs.Common.{◌∙◌, ap}
 use Rattle.dk_base.specs.declared.kinds.VarId.{VarId}
 use Rattle.dk_constants.specs.Known.{Entries}
-use Rattle.dk_fits.specs.Instances.{rows_of}
+use Rattle.dk_instances.specs.Instances.{rows_of}
 use Rattle.dk_report.proofs.Reported.{if_ok}
 use Rattle.dk_report.specs.Narrowing.{candidates_left, fixed_vars, is_fixed}
 use Rattle.dk_report.proofs.asking.Asking.narrow_to.Goals as goal

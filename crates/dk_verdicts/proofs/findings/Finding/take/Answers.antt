@@ -1,7 +1,7 @@
 use Rattle.std.proofs.Common.{subst, sym, List}
 use Rattle.dk_base.specs.Values.{values_of}
 use Rattle.dk_base.specs.declared.kinds.VarId.{VarId}
-use Rattle.dk_fits.specs.Fits.{tuple_in}
+use Rattle.dk_instances.specs.Fits.{tuple_in}
 use Rattle.dk_verdicts.proofs.Taken.{takes_kept, takes_missing, takes_violated}
 use Rattle.dk_verdicts.specs.Tests.{CanGoOn, Fits, Takes, Tells, tuples_by}
 use Rattle.dk_verdicts.specs.declared.findings.Finding.{Finding}

@@ -1,5 +1,0 @@
-use Rattle.dk_fits.proofs.Whole.{fit_is_proper}
-use Rattle.dk_fits.proofs.laws.fits_are_proper.Goals as goal
-
-pub returns : goal.returns
-returns c = fit_is_proper

@@ -1,5 +1,0 @@
-use Rattle.dk_fits.proofs.Pushing.{fit_push}
-use Rattle.dk_fits.proofs.laws.samples_join_one_by_one.Goals as goal
-
-pub returns : goal.returns
-returns c = fit_push
