@@ -15,8 +15,8 @@ use Rattle.dk_classes.specs.Leaders.{own_leaders}
 use Rattle.dk_constants.proofs.Determined.{entry_found}
 use Rattle.dk_constants.proofs.Feeding.{passes}
 use Rattle.dk_constants.specs.Known.{known_at}
-use Rattle.dk_parts.proofs.Restoring.{held_moved}
-use Rattle.dk_parts.specs.Restored.{HaveEntries, HaveMembers, HavePatterns}
+use Rattle.dk_snapshot.proofs.Restoring.{held_moved}
+use Rattle.dk_snapshot.specs.Restored.{HaveEntries, HaveMembers, HavePatterns}
 use Rattle.dk_presence.proofs.Sameness.{same_vars-at, same_vars-sym}
 use Rattle.dk_presence.specs.Patterns.{capped, counted_by, has, has_all, held_patterns, pattern_count, same_vars}
 use Rattle.dk_presence.specs.declared.held.Held.{Held}

@@ -2,9 +2,9 @@
 use Rattle.std.specs.Prelude.{◌≡◌, ◌≤◌, ◌^◌, List}
 use Rattle.dk_base.specs.declared.kinds.VarInfo.{VarInfo}
 use Rattle.dk_classes.specs.Leaders.{own_leaders}
-use Rattle.dk_parts.specs.Classes.{classes_of}
-use Rattle.dk_parts.specs.Entries.{all_known_of}
-use Rattle.dk_parts.specs.Patterns.{patterns_of}
+use Rattle.dk_snapshot.specs.Classes.{classes_of}
+use Rattle.dk_snapshot.specs.Entries.{all_known_of}
+use Rattle.dk_snapshot.specs.Patterns.{patterns_of}
 use Rattle.dk_template.specs.declared.grammar.Grammar.{Grammar}
 use Rattle.dk_engine.specs.Conditions.{AreParts}
 use Rattle.dk_engine.specs.declared.kept.Kept.{Kept}

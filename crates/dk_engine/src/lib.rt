@@ -44,7 +44,7 @@ mod taking;
 mod touching;
 
 pub use counts::Counts;
-pub use dk_parts::{Known, Pattern};
+pub use dk_snapshot::{Known, Pattern};
 pub use engine::Engine;
 pub use kept::Kept;
 pub use now::Now;

@@ -3,7 +3,7 @@ ghost use Rattle.std.specs.Prelude.{◌≡◌, IfOk};
 
 use crate::{Engine, Slot};
 use dk_base::{List, NoMemory, VarId};
-use dk_parts::{Known, Pattern, classes_in_order, known_in_order, patterns_in_order};
+use dk_snapshot::{Known, Pattern, classes_in_order, known_in_order, patterns_in_order};
 use dk_template::Tuple;
 use std::alloc::Global;
 

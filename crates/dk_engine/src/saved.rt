@@ -17,7 +17,7 @@ use crate::mapping::bitmaps;
 use crate::nothing::Nothing;
 use crate::{Engine, Kept, Parts, Slot, Slots};
 use dk_base::{List, NoMemory, VarInfo};
-use dk_parts::{classes_from, constants_from, presence_from};
+use dk_snapshot::{classes_from, constants_from, presence_from};
 use dk_suppress::suppressed;
 use dk_template::{Answers, Grammar};
 use std::alloc::Global;

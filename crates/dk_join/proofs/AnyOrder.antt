@@ -12,10 +12,10 @@ use Rattle.dk_engine.specs.Exact.{AreSamples, IsKeptOf}
 use Rattle.dk_engine.specs.Saved.{parts_of}
 use Rattle.dk_engine.specs.declared.kept.Kept.{Kept}
 use Rattle.dk_instances.specs.Laws.{IsSample}
-use Rattle.dk_parts.specs.Classes.{classes_of}
-use Rattle.dk_parts.specs.Entries.{all_known_of}
-use Rattle.dk_parts.specs.Patterns.{patterns_of}
 use Rattle.dk_presence.specs.Patterns.{capped, pattern_count, patterns_of as sample_patterns, times}
+use Rattle.dk_snapshot.specs.Classes.{classes_of}
+use Rattle.dk_snapshot.specs.Entries.{all_known_of}
+use Rattle.dk_snapshot.specs.Patterns.{patterns_of}
 use Rattle.dk_template.specs.declared.grammar.Grammar.{Grammar}
 use Rattle.dk_join.proofs.Determined.{one_order}
 use Rattle.dk_join.specs.Laws.{Alone, AreJoins, Joins, OrderOfJoinsDoesNotMatter, Together, all_samples, kept_by}

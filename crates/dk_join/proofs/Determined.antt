@@ -12,15 +12,15 @@ use Rattle.dk_constants.specs.Known.{Entries}
 use Rattle.dk_engine.specs.Feeding.{slots_of}
 use Rattle.dk_engine.specs.Saved.{parts_of}
 use Rattle.dk_engine.specs.declared.kept.Kept.{Kept}
-use Rattle.dk_parts.proofs.PatternOrder.{same_patterns}
-use Rattle.dk_parts.proofs.Weights.{Apart, In, contains_from, in_from, same_weights}
-use Rattle.dk_parts.specs.Classes.{classes_of}
-use Rattle.dk_parts.specs.Entries.{all_known_of}
-use Rattle.dk_parts.specs.Patterns.{patterns_of}
 use Rattle.dk_presence.proofs.Sameness.{same_vars-refl, same_vars-true}
 use Rattle.dk_presence.proofs.Sums.{count_at}
 use Rattle.dk_presence.specs.Patterns.{AreHeld, capped, held_patterns, pattern_count, same_vars}
 use Rattle.dk_presence.specs.declared.held.Held.{Held}
+use Rattle.dk_snapshot.proofs.PatternOrder.{same_patterns}
+use Rattle.dk_snapshot.proofs.Weights.{Apart, In, contains_from, in_from, same_weights}
+use Rattle.dk_snapshot.specs.Classes.{classes_of}
+use Rattle.dk_snapshot.specs.Entries.{all_known_of}
+use Rattle.dk_snapshot.specs.Patterns.{patterns_of}
 use Rattle.dk_template.specs.declared.grammar.Grammar.{Grammar}
 use Rattle.dk_join.specs.Joined.{AreJoinedLeaders, IsJoinOf, IsLedAlike, joined_known, times_present}
 use Rattle.dk_join.specs.Joining.{read_joined}

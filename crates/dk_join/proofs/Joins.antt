@@ -9,11 +9,11 @@ use Rattle.dk_base.specs.declared.values.Value.{Value}
 use Rattle.dk_classes.specs.Leaders.{own_leaders}
 use Rattle.dk_constants.specs.Known.{Entries}
 use Rattle.dk_instances.specs.Laws.{IsSample}
-use Rattle.dk_parts.specs.Classes.{classes_of}
-use Rattle.dk_parts.specs.Entries.{all_known_of}
-use Rattle.dk_parts.specs.Patterns.{patterns_of}
-use Rattle.dk_parts.specs.declared.known.Known.{Known}
-use Rattle.dk_parts.specs.declared.pattern.Pattern.{Pattern}
+use Rattle.dk_snapshot.specs.Classes.{classes_of}
+use Rattle.dk_snapshot.specs.Entries.{all_known_of}
+use Rattle.dk_snapshot.specs.Patterns.{patterns_of}
+use Rattle.dk_snapshot.specs.declared.known.Known.{Known}
+use Rattle.dk_snapshot.specs.declared.pattern.Pattern.{Pattern}
 use Rattle.dk_presence.specs.Patterns.{capped}
 use Rattle.dk_presence.specs.declared.held.Held.{Held}
 use Rattle.dk_engine.proofs.Saving.{kept_parts_are_saved}

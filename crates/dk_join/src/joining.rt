@@ -19,7 +19,7 @@ use crate::sweeps::Sweep;
 use dk_base::{List, NoMemory, Text, VarId, VarInfo};
 use dk_constants::Constants;
 use dk_engine::{Engine, Parts, PartsFault, Slot};
-use dk_parts::{classes_in_order, known_in_order, patterns_in_order};
+use dk_snapshot::{classes_in_order, known_in_order, patterns_in_order};
 use std::alloc::Global;
 use thiserror::Error;
 

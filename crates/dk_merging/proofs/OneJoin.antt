@@ -21,10 +21,10 @@ use Rattle.dk_forms.specs.declared.states.State.TheVariants.{Empty}
 use Rattle.dk_join.proofs.Determined.{joined_parts_are_determined}
 use Rattle.dk_join.specs.Joined.{AreJoinedParts, IsJoinOf, present_with}
 use Rattle.dk_join.specs.Joining.{read_joined}
-use Rattle.dk_parts.proofs.Leading.{members_back}
-use Rattle.dk_parts.proofs.Restoring.{patterns_back, same_entries}
+use Rattle.dk_snapshot.proofs.Leading.{members_back}
+use Rattle.dk_snapshot.proofs.Restoring.{patterns_back, same_entries}
 use Rattle.dk_graph.proofs.Places.{some-injective}
-use Rattle.dk_parts.specs.Restored.{HaveMembers, HavePatterns, held_of}
+use Rattle.dk_snapshot.specs.Restored.{HaveMembers, HavePatterns, held_of}
 use Rattle.dk_presence.specs.Patterns.{capped, same_vars}
 use Rattle.dk_presence.specs.declared.held.Held.{Held}
 use Rattle.dk_state.specs.Spelling.{saved_parts}

@@ -13,12 +13,12 @@ use Rattle.dk_classes.specs.Leaders.{own_leaders, var}
 use Rattle.dk_constants.proofs.Determined.{entry_found}
 use Rattle.dk_engine.specs.Saved.{AreSavedParts}
 use Rattle.dk_engine.specs.declared.parts.Parts.{Parts}
-use Rattle.dk_parts.specs.Classes.{classes_of, members_of}
-use Rattle.dk_parts.specs.Entries.{all_known_of, known_of}
-use Rattle.dk_parts.specs.Patterns.{pattern_cmp, pattern_of, patterns_of}
-use Rattle.dk_parts.specs.Sorting.{ascending, put}
 use Rattle.dk_presence.specs.Patterns.{counted_by, has_all}
 use Rattle.dk_presence.specs.declared.held.Held.{Held}
+use Rattle.dk_snapshot.specs.Classes.{classes_of, members_of}
+use Rattle.dk_snapshot.specs.Entries.{all_known_of, known_of}
+use Rattle.dk_snapshot.specs.Patterns.{pattern_cmp, pattern_of, patterns_of}
+use Rattle.dk_snapshot.specs.Sorting.{ascending, put}
 use Rattle.dk_template.specs.declared.grammar.Grammar.{Grammar}
 use Rattle.dk_state.specs.Fitting.{FitsClass, FitsKnown, FitsParts, FitsPattern, FitsPlace, FitsSlot}
 

@@ -22,11 +22,11 @@ use Rattle.dk_engine.specs.Levels.{Whole}
 use Rattle.dk_engine.specs.Saved.{parts_of}
 use Rattle.dk_engine.specs.declared.kept.Kept.{Kept}
 use Rattle.dk_hierarchy.specs.Samples.{OwnSamples, all_vars_of, own_samples_of}
-use Rattle.dk_parts.proofs.PatternOrder.{same_patterns}
-use Rattle.dk_parts.proofs.Weights.{Apart, In, contains_from, in_from, same_weights}
-use Rattle.dk_parts.specs.Classes.{classes_of}
-use Rattle.dk_parts.specs.Entries.{all_known_of}
-use Rattle.dk_parts.specs.Patterns.{patterns_of}
+use Rattle.dk_snapshot.proofs.PatternOrder.{same_patterns}
+use Rattle.dk_snapshot.proofs.Weights.{Apart, In, contains_from, in_from, same_weights}
+use Rattle.dk_snapshot.specs.Classes.{classes_of}
+use Rattle.dk_snapshot.specs.Entries.{all_known_of}
+use Rattle.dk_snapshot.specs.Patterns.{patterns_of}
 use Rattle.dk_points.specs.Table.{Point}
 use Rattle.dk_presence.proofs.Sameness.{same_vars-refl}
 use Rattle.dk_presence.specs.Patterns.{AreHeld, held_patterns, same_vars}

@@ -18,8 +18,8 @@ use Rattle.dk_engine.specs.declared.parts.Parts.{Parts}
 use Rattle.dk_engine.specs.declared.slot.Slot.{Slot}
 use Rattle.dk_forms.specs.declared.states.State.{State}
 use Rattle.dk_forms.specs.declared.states.State.TheVariants as state
-use Rattle.dk_parts.specs.declared.known.Known.{Known}
-use Rattle.dk_parts.specs.declared.pattern.Pattern.{Pattern}
+use Rattle.dk_snapshot.specs.declared.known.Known.{Known}
+use Rattle.dk_snapshot.specs.declared.pattern.Pattern.{Pattern}
 use Rattle.dk_state.specs.Reading.{HasNone, ends_line}
 
 -- ---- declarations

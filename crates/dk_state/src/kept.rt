@@ -3,9 +3,9 @@ ghost use Rattle.std.specs.Prelude.{◌≡◌, ◌++◌, ◌∷◌, [], IfOk, On
 ghost use Rattle.std.specs.Fmt.{decimal};
 ghost use Rattle.dk_classes.specs.Leaders.{own_leaders};
 ghost use Rattle.dk_engine.specs.Saved.{parts_of};
-ghost use Rattle.dk_parts.specs.Classes.{classes_of};
-ghost use Rattle.dk_parts.specs.Entries.{all_known_of};
-ghost use Rattle.dk_parts.specs.Patterns.{patterns_of};
+ghost use Rattle.dk_snapshot.specs.Classes.{classes_of};
+ghost use Rattle.dk_snapshot.specs.Entries.{all_known_of};
+ghost use Rattle.dk_snapshot.specs.Patterns.{patterns_of};
 ghost use Rattle.dk_state.specs.Kept.{behind_classes, bits_of, class_line, if_any, known_line, opening_lines, parts_lines, pattern_line, slot_line};
 ghost use Rattle.dk_state.specs.Lines.{fields_text, state_line};
 
@@ -13,7 +13,7 @@ use crate::fields::{end_line, push_number, push_value, push_vars};
 use crate::states::push_state;
 use dk_base::{List, NoMemory, Text, VarId};
 use dk_engine::{Engine, Known, Pattern, Slot};
-use dk_parts::{classes_in_order, known_in_order, patterns_in_order};
+use dk_snapshot::{classes_in_order, known_in_order, patterns_in_order};
 use std::alloc::Global;
 
 fn push_class(text: &mut Text, members: &[VarId]) -> Result<(), NoMemory>

@@ -3,8 +3,8 @@ ghost use Rattle.std.specs.Prelude.{◌≡◌, All, OnOk, IfOk, Some, flat_map, 
 ghost use Rattle.std.specs.List.{enumerate_from};
 ghost use Rattle.std.specs.Str.{bytes_eq};
 ghost use Rattle.dk_classes.specs.Leaders.{own_leaders};
-ghost use Rattle.dk_parts.specs.Patterns.{pattern_of, patterns_of};
 ghost use Rattle.dk_samples.specs.Leaders.{VarsAscend};
+ghost use Rattle.dk_snapshot.specs.Patterns.{pattern_of, patterns_of};
 ghost use Rattle.dk_state.specs.Kept.{pattern_line, slot_line};
 ghost use Rattle.dk_state.specs.Matching.{is_end, left_behind};
 ghost use Rattle.dk_state.specs.Saved.{kept_lines, saved_text};
@@ -14,9 +14,9 @@ use crate::kept::{patterns_of, push_constants, push_opening, push_pattern, push_
 use crate::saving::push_head;
 use dk_base::{NoMemory, Text, VarId};
 use dk_engine::{Engine, Pattern, Slot};
-use dk_parts::{held_in_order, pattern_of};
 use dk_points::Points;
 use dk_presence::Held;
+use dk_snapshot::{held_in_order, pattern_of};
 use dk_template::Grammar;
 use std::alloc::Global;
 use std::marker::Model;

@@ -3,7 +3,7 @@ use Rattle.std.specs.List.Sorted.{IsPermutation}
 use Rattle.std.proofs.Common.{◌∙◌, ap, refl, subst, sym}
 use Rattle.std.proofs.lemmas.Option.{none-some, same_Some}
 use Rattle.dk_classes.specs.Leaders.{own_leaders}
-use Rattle.dk_parts.specs.Restored.{HaveEntries, HaveMembers, HavePatterns}
+use Rattle.dk_snapshot.specs.Restored.{HaveEntries, HaveMembers, HavePatterns}
 use Rattle.dk_engine.proofs.Saving.{entries_kept, have_all, members_kept, patterns_kept}
 use Rattle.dk_engine.specs.declared.kept.Kept.{Kept}
 use Rattle.dk_engine.specs.declared.parts.Parts.{Parts}

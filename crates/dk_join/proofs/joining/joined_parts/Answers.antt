@@ -2,8 +2,8 @@ use Rattle.std.specs.Prelude.{◌<◌, All, length}
 use Rattle.std.proofs.Common.{◌∙◌, ap, subst, sym}
 use Rattle.dk_base.specs.declared.kinds.VarId.{VarId}
 use Rattle.dk_constants.specs.Known.{EntriesAscend}
-use Rattle.dk_parts.specs.Entries.{all_known_of}
-use Rattle.dk_parts.specs.Patterns.{patterns_of}
+use Rattle.dk_snapshot.specs.Entries.{all_known_of}
+use Rattle.dk_snapshot.specs.Patterns.{patterns_of}
 use Rattle.dk_join.proofs.Joins.{parts_are_joined}
 use Rattle.dk_join.proofs.Knowing.{known_ascend}
 use Rattle.dk_join.proofs.Leading.{all_within_first, all_within_second}

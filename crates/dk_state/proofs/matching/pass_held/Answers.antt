@@ -1,7 +1,7 @@
 use Rattle.std.specs.Prelude.{flat_map}
 use Rattle.std.proofs.Common.{◌∙◌, ap, arith}
 use Rattle.std.proofs.lemmas.List.{take_all}
-use Rattle.dk_parts.specs.Patterns.{pattern_of}
+use Rattle.dk_snapshot.specs.Patterns.{pattern_of}
 use Rattle.dk_state.specs.Kept.{pattern_line}
 use Rattle.dk_state.specs.Matching.{left_behind}
 use Rattle.dk_state.proofs.Passing.{mapped_pieces, one_more_passed}

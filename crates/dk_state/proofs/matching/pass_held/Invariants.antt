@@ -1,6 +1,6 @@
 use Rattle.std.proofs.Common.{◌≡◌, take}
 use Rattle.std.specs.List.{flat_map}
-use Rattle.dk_parts.specs.Patterns.{pattern_of}
+use Rattle.dk_snapshot.specs.Patterns.{pattern_of}
 use Rattle.dk_state.specs.Kept.{pattern_line}
 use Rattle.dk_state.specs.Matching.{left_behind}
 use Rattle.dk_state.proofs.matching.pass_held.Given as goal

@@ -1,6 +1,0 @@
-use Rattle.std.proofs.Common.{◌≡◌, map}
-use Rattle.dk_parts.specs.Restored.{entry_of}
-use Rattle.dk_parts.proofs.entries.entries_of.Given as goal
-
-abbrev pub invariant-loop-constant : goal.invariant-loop-constant
-invariant-loop-constant l = l.entries ≡ map entry_of l.yielded

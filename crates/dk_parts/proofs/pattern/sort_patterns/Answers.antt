@@ -1,5 +1,0 @@
-use Rattle.dk_parts.proofs.PatternOrder.{sorted_patterns}
-use Rattle.dk_parts.proofs.pattern.sort_patterns.Goals as goal
-
-pub returns : goal.returns
-returns c = sorted_patterns c.args.all.items c.sort.new.self.items c.sort.ensures.permutation c.in_ok-sort.ensures.sorted

@@ -1,6 +1,0 @@
-use Rattle.std.proofs.Common.{◌≡◌, map, take}
-use Rattle.dk_parts.specs.Patterns.{pattern_of, seen}
-use Rattle.dk_parts.proofs.pattern.with_truths.Given as goal
-
-abbrev pub invariant-loop-pattern : goal.invariant-loop-pattern
-invariant-loop-pattern l = map seen l.all.items ≡ map (pattern_of l.leaders) (take l.pattern-index l.held)

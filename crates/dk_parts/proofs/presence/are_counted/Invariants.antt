@@ -1,6 +1,0 @@
-use Rattle.std.proofs.Common.{◌<◌, ℕ, get_or}
-use Rattle.dk_parts.specs.declared.pattern.Pattern.{Pattern}
-use Rattle.dk_parts.proofs.presence.are_counted.Given as goal
-
-abbrev pub invariant-loop-pattern : goal.invariant-loop-pattern
-invariant-loop-pattern l = (k : ℕ) (d : Pattern) → k < l.pattern-index → 0 < (get_or l.patterns k d).count
