@@ -7,10 +7,10 @@ import re
 
 TOP = os.path.dirname(os.path.dirname(os.path.abspath(__file__)))
 SOURCES: dict[str, str] = {
-    "daikon": "crates/dk_words/src/texts.rt",
+    "daikon": "crates/dk_command_line/src/texts.rt",
     "dk_split": "crates/dk_split/src/texts.rt",
     "dk_check": "crates/dk_check/src/texts.rt",
-    "dk_merge": "crates/dk_merge_words/src/texts.rt",
+    "dk_merge": "crates/dk_merge_command_line/src/texts.rt",
     "dk_tell": "crates/dk_tell/src/texts.rt",
     "dk_table": "crates/dk_table/src/texts.rt",
 }

@@ -21,7 +21,7 @@ use Rattle.dk_merge.proofs.Taking.{helds_length}
 use Rattle.dk_merge.specs.Merged.{AreTaken}
 use Rattle.dk_merge.specs.Outputs.{IsDoneOutput, IsRefusedInTurns, IsRefusedOutput}
 use Rattle.dk_merge.specs.Statuses.{AreRead, CompletesCalmly, EndsAs, IsCalmlyComplete, IsComplete, IsRefused, IsRefusedLater, IsUnread, Says, helds_of}
-use Rattle.dk_merge_words.specs.declared.command.Command.{Command}
+use Rattle.dk_merge_command_line.specs.declared.command.Command.{Command}
 
 -- a file that is held is not left unread
 not_unread : (command : Command) (before after : Outside) (output : Output) (n : ℕ) (contents : List (List ℕ)) → IsCalm before after → AreHeldFiles (take n (helds_of command before.file)) contents

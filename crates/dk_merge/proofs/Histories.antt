@@ -39,8 +39,8 @@ use Rattle.dk_merge.specs.Histories.{HasAllOf, IsAlike, MergesHistories}
 use Rattle.dk_merge.specs.Merged.{AreMergedTo, IsNoState, IsRefusedBehind, MergeAnswers, MergesTo, bytes_in, refusal_by, whole_limit}
 use Rattle.dk_merge.specs.Outputs.{IsDoneOutput, IsMergedOutput, IsRefusedInTurns, IsRefusedOutput, IsStateOutput, state_output}
 use Rattle.dk_merge.specs.Statuses.{EndsAs, IsComplete}
-use Rattle.dk_merge_words.specs.Requests.{dk_merge}
-use Rattle.dk_merge_words.specs.declared.command.Command.{Command}
+use Rattle.dk_merge_command_line.specs.Requests.{dk_merge}
+use Rattle.dk_merge_command_line.specs.declared.command.Command.{Command}
 use Rattle.dk_arguments.specs.declared.request.Request.{Request}
 use Rattle.dk_arguments.specs.declared.request.Request.TheVariants.{Run, Help, Version}
 

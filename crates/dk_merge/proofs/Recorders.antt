@@ -18,8 +18,8 @@ use Rattle.dk_merge.specs.Merged.{IsRefusedBehind, bytes_in, whole_limit}
 use Rattle.dk_merge.specs.Outputs.{IsDoneOutput, IsRefusedInTurns, IsRefusedOutput, turns_command, turns_fault, turns_output}
 use Rattle.dk_merge.specs.Recorders.{WritesAsWithoutTurns}
 use Rattle.dk_merge.specs.Statuses.{EndsAs, IsComplete}
-use Rattle.dk_merge_words.specs.Requests.{dk_merge}
-use Rattle.dk_merge_words.specs.declared.command.Command.{Command}
+use Rattle.dk_merge_command_line.specs.Requests.{dk_merge}
+use Rattle.dk_merge_command_line.specs.declared.command.Command.{Command}
 use Rattle.dk_arguments.specs.declared.request.Request.{Request}
 use Rattle.dk_arguments.specs.declared.request.Request.TheVariants.{Run, Help, Version}
 

@@ -31,7 +31,7 @@ use Rattle.dk_merge.specs.Statuses.{AreRead, ComesTo, IsCutAtEnd, IsRefused, IsR
 use Rattle.dk_merge.specs.declared.gathered.Gathered.{Gathered}
 use Rattle.dk_merge.specs.declared.gathered.Gathered.TheVariants.{State, Traces}
 use Rattle.dk_merge.specs.declared.gathering.Gathering.{Gathering}
-use Rattle.dk_merge_words.specs.declared.command.Command.{Command}
+use Rattle.dk_merge_command_line.specs.declared.command.Command.{Command}
 
 -- what is said of an end, where nothing else was read
 pub says_more : (request : Option (Request Command)) (before after : Outside) (result : Ended) → StatusSays (ComesTo request) result before after → Says result request before after

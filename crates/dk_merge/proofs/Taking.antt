@@ -18,7 +18,7 @@ use Rattle.dk_merge.specs.Statuses.{helds_of}
 use Rattle.dk_merge.specs.declared.gathered.Gathered.{Gathered}
 use Rattle.dk_merge.specs.declared.gathered.Gathered.TheVariants.{State, Traces}
 use Rattle.dk_merge.specs.declared.gathering.Gathering.{Gathering}
-use Rattle.dk_merge_words.specs.declared.command.Command.{Command}
+use Rattle.dk_merge_command_line.specs.declared.command.Command.{Command}
 
 pub helds_length : (command : Command) (file : List ℕ → HeldFile) → length (helds_of command file) ≡ length command.files
 helds_length command file = length-map command.files file

@@ -18,7 +18,7 @@ use Rattle.dk_merge.specs.declared.gathered.Gathered.{Gathered}
 use Rattle.dk_merge.specs.declared.gathered.Gathered.TheVariants.{State, Traces}
 use Rattle.dk_merge.specs.declared.gathering.Gathering.{Gathering}
 use Rattle.dk_merge.specs.declared.gathering.Untaken.{Untaken}
-use Rattle.dk_merge_words.specs.declared.command.Command.{Command}
+use Rattle.dk_merge_command_line.specs.declared.command.Command.{Command}
 
 -- ---- one file more
 -- the state file of what states say together, if there are any

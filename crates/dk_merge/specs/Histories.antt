@@ -13,7 +13,7 @@ use Rattle.dk_merge.specs.Outputs.{state_output}
 use Rattle.dk_merge.specs.Statuses.{helds_of}
 use Rattle.dk_arguments.specs.declared.request.Request.{Request}
 use Rattle.dk_arguments.specs.declared.request.Request.TheVariants.{Run}
-use Rattle.dk_merge_words.specs.declared.command.Command.{Command}
+use Rattle.dk_merge_command_line.specs.declared.command.Command.{Command}
 
 -- a history of the same table, comparability word and grammar
 pub record IsAlike (h other : History) : Type 0 where

@@ -12,9 +12,9 @@ use Rattle.dk_run.specs.Courses.{first_fault, first_start}
 use Rattle.dk_run.specs.Outputs.{output_of}
 use Rattle.dk_run.specs.Reports.{whole_report}
 use Rattle.dk_turns.specs.Turns.{turns_of}
-use Rattle.dk_words.specs.declared.command.Command.{Command as PlainCommand}
+use Rattle.dk_command_line.specs.declared.command.Command.{Command as PlainCommand}
 use Rattle.dk_merge.specs.Merged.{AreMergedTo, AreTaken, IsRefusedBehind}
-use Rattle.dk_merge_words.specs.declared.command.Command.{Command}
+use Rattle.dk_merge_command_line.specs.declared.command.Command.{Command}
 
 -- nothing is written
 abbrev pub no_output : Output

@@ -13,7 +13,7 @@ use Rattle.dk_merge.specs.Outputs.{turns_output}
 use Rattle.dk_merge.specs.Statuses.{helds_of}
 use Rattle.dk_arguments.specs.declared.request.Request.{Request}
 use Rattle.dk_arguments.specs.declared.request.Request.TheVariants.{Run}
-use Rattle.dk_merge_words.specs.declared.command.Command.{Command}
+use Rattle.dk_merge_command_line.specs.declared.command.Command.{Command}
 
 -- With turns, let the files be those of recorders that are accepted as one file without turns, and let no fault of the outside rise. Then
 -- each stream gets what daikon writes of that file, whatever the number of turns; or memory runs out.

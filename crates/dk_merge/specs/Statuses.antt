@@ -16,8 +16,8 @@ use Rattle.dk_program.specs.Statuses.{Coming, Completes, GivesOutput, ComesTo as
 use Rattle.dk_turns.specs.Turns.{turns_of}
 use Rattle.dk_merge.specs.Merged.{AreTaken, IsReason, IsRefusedBehind, bytes_in, whole_limit}
 use Rattle.dk_merge.specs.Outputs.{IsDoneFront, IsDoneOutput, IsRefusedInTurns, IsRefusedOutput, turns_fault, turns_name, turns_output}
-use Rattle.dk_merge_words.specs.Requests.{dk_merge}
-use Rattle.dk_merge_words.specs.declared.command.Command.{Command}
+use Rattle.dk_merge_command_line.specs.Requests.{dk_merge}
+use Rattle.dk_merge_command_line.specs.declared.command.Command.{Command}
 
 -- ---- what was read
 -- what is told of the files that the words name, in order

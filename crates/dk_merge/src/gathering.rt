@@ -9,7 +9,7 @@ use crate::reading::read_whole;
 use dk_arguments::Word;
 use dk_driver::FileFault;
 use dk_io::Inputs;
-use dk_merge_words::Command;
+use dk_merge_command_line::Command;
 use std::alloc::Global;
 
 /// What is kept of the files that were read, and how many bytes the others may have.

@@ -6,11 +6,11 @@ ghost use Rattle.dk_merge.specs.Running.{ReportEnds, TurnsEnd, holding};
 
 use dk_arguments::Word;
 use dk_base::{List, NoMemory, Text};
+use dk_command_line::Command;
 use dk_events::Ended;
 use dk_io::{Sinks, SteadyInputs};
 use dk_merging::JoinedStates;
 use dk_run::{report_loaded, run_command};
-use dk_words::Command;
 use std::alloc::Global;
 
 /// How many bytes a read moves.

@@ -7,15 +7,15 @@ ghost use Rattle.dk_program.specs.Statuses.{IsARun};
 ghost use Rattle.dk_merge.specs.Histories.{MergesHistories};
 ghost use Rattle.dk_merge.specs.Recorders.{WritesAsWithoutTurns};
 ghost use Rattle.dk_merge.specs.Statuses.{CompletesCalmly, Says};
-ghost use Rattle.dk_merge_words.specs.Requests.{request_of};
-ghost use Rattle.dk_merge_words.specs.Texts.{usage_line as usage_text};
+ghost use Rattle.dk_merge_command_line.specs.Requests.{request_of};
+ghost use Rattle.dk_merge_command_line.specs.Texts.{usage_line as usage_text};
 ghost use Rattle.dk_arguments.specs.declared.request.Request.TheVariants as request;
 
 use crate::gathering::{Untaken, gather, name_at};
 use crate::telling::tell_gathered;
 use dk_events::Ended;
 use dk_io::{Inputs, Sinks};
-use dk_merge_words::Command;
+use dk_merge_command_line::Command;
 use dk_program::{asked_run, tell_file_fault};
 use std::alloc::Global;
 

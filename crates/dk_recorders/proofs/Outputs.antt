@@ -13,7 +13,7 @@ use Rattle.dk_run.specs.Courses.{Course, course_of, first_start}
 use Rattle.dk_run.specs.Outputs.{first_line, output_along, output_at, output_of, saved_state}
 use Rattle.dk_run.specs.Reports.{due_report, whole_report}
 use Rattle.dk_turns.specs.Turns.{turns_of}
-use Rattle.dk_words.specs.declared.command.Command.{Command}
+use Rattle.dk_command_line.specs.declared.command.Command.{Command}
 use Rattle.dk_recorders.specs.Laws.{TellTheSame, TellsAtTheEnd, TurnsWriteTheSame, history_of, output_over}
 use Rattle.dk_recorders.specs.Recorders.{text_by_file}
 use Rattle.dk_recorders.proofs.Courses.{turns_do_not_matter}

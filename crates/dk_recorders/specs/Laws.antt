@@ -15,7 +15,7 @@ use Rattle.dk_run.specs.Courses.{Outset, course_of, first_start}
 use Rattle.dk_run.specs.Outputs.{output_of}
 use Rattle.dk_turns.specs.Blocks.{Block, sample_blocks}
 use Rattle.dk_turns.specs.Turns.{turns_of}
-use Rattle.dk_words.specs.declared.command.Command.{Command}
+use Rattle.dk_command_line.specs.declared.command.Command.{Command}
 use Rattle.dk_recorders.specs.Blocks.{AreOfRecorders, EndedBlock, after_blocks, blocks_of_groups, contents_of}
 use Rattle.dk_recorders.specs.Interleaving.{IsInterleaved}
 use Rattle.dk_recorders.specs.Recorders.{AreRecorders, text_by_file, text_in_order}

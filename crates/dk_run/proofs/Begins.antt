@@ -8,7 +8,7 @@ use Rattle.dk_state.specs.Spelling.{IsSpelling}
 use Rattle.dk_blocks.specs.History.{History, no_history}
 use Rattle.dk_core.specs.Resuming.{HasTableOfState, state_file}
 use Rattle.dk_core.specs.Standing.{SessionReadsFor, SessionStandsFor, blocks_of, over_of}
-use Rattle.dk_words.specs.declared.command.Command.{Command}
+use Rattle.dk_command_line.specs.declared.command.Command.{Command}
 use Rattle.dk_run.specs.Beginning.{IsBegun, IsLeft, IsResumed, IsUnloaded, IsWhole, StartFaultGives, StateFaultGives, fault_of_read}
 use Rattle.dk_run.specs.Courses.{Outset, first_start, total_limit}
 use Rattle.dk_run.specs.Starts.{Begins, BeginsLike, HasBegun}

@@ -15,7 +15,7 @@ use Rattle.dk_blocks.specs.Steps.{FaultAnswers, Steps}
 use Rattle.dk_core.specs.Steps.{NextBlock, SessionCounts}
 use Rattle.dk_core.specs.declared.session.Session.{Session}
 use Rattle.dk_report.specs.declared.options.Options.{Options}
-use Rattle.dk_words.specs.declared.command.Command.{Command}
+use Rattle.dk_command_line.specs.declared.command.Command.{Command}
 use Rattle.dk_driver.proofs.Filing.{block_fault, file_end, file_on, file_short, no_effect, some_effect, told, whole_break, whole_end}
 use Rattle.dk_driver.specs.Steps.{FindsBlock, FindsNone}
 use Rattle.dk_driver.specs.Trails.{Step, trail_behind}
@@ -151,8 +151,8 @@ module _ {F : Type 0} (command : Command) (Begun : Type 0) (place : ℕ) (h : Hi
         file_short command.ignore_missing_entry place h before r new last o mid left (IsBehind command Begun s text) Part (over_of s) (over_of next) goes
         (finds_block Part answers (λ h1 h2 steps one is old reads stands. part_more command Begun s next text more counts told h1 h2 steps one is old stands))
         (IsWrittenInPart command Begun (text ++ more)) (λ h1 steps part. part) where
-      Part : History → List Step → Type 0
-      Part h2 steps = IsWrittenInPart command Begun (text ++ more) steps
+          Part : History → List Step → Type 0
+          Part h2 steps = IsWrittenInPart command Begun (text ++ more) steps
 
     -- no block more
     pub session_end : (done : Session F) → ((h : History) → SessionReadsFor s h → IfSome mid (λ ys. NextBlock s h new ys (Ok (next, false)) last left))
@@ -162,25 +162,25 @@ module _ {F : Type 0} (command : Command) (Begun : Type 0) (place : ℕ) (h : Hi
     session_end done answers counts over ended read_ended =
         file_end command.ignore_missing_entry place h before r new last o mid left (IsBehind command Begun s text) Done (over_of s) (over_of next) goes finds_none over
         (IsBehind command Begun done text) (λ h1 steps behind. behind) where
-      Done : History → List Step → Type 0
-      Done h2 steps = IsBehind command Begun done text (file_ended h2) steps
+          Done : History → List Step → Type 0
+          Done h2 steps = IsBehind command Begun done text (file_ended h2) steps
 
-      finds_none : (h1 : History) (steps : List Step) → IsBehind command Begun s text h1 steps → IfSome mid (λ ys. FindsNone Done command.ignore_missing_entry h1 steps (over_of s) new ys (over_of next) last left)
-      finds_none h1 steps behind = go mid (answers h1 behind.fed.goes.reads) where
-        go : (o : Option (List ℕ)) → IfSome o (λ ys. NextBlock s h1 new ys (Ok (next, false)) last left)
-            → IfSome o (λ ys. FindsNone Done command.ignore_missing_entry h1 steps (over_of s) new ys (over_of next) last left)
-        go None gives = tt
-        go (Some ys) (h2, reads, stands, (effect, found, (zs, is, read))) = record {
-          next = h2;
-          stands = record {
-            fed = record { goes = record { reads = read_ended h2 reads; stands = λ begun. ended h2 (stands (behind.fed.goes.stands begun)) }; counts = counts ∙ behind.fed.counts };
-            written = behind.written;
-          };
-          ys = zs;
-          left_is = is;
-          takes = subst (λ (o : Option Effect). Steps command.ignore_missing_entry (effect_of command.ignore_missing_entry h1) (over_of s) new ys (Ok (record { history = h2; effect = o })) (over_of next) last zs) (no_effect effect found)
-              (subst (λ (b : Bool). Steps b (effect_of b h1) (over_of s) new ys (Ok (record { history = h2; effect = effect })) (over_of next) last zs) same read);
-        }
+          finds_none : (h1 : History) (steps : List Step) → IsBehind command Begun s text h1 steps → IfSome mid (λ ys. FindsNone Done command.ignore_missing_entry h1 steps (over_of s) new ys (over_of next) last left)
+          finds_none h1 steps behind = go mid (answers h1 behind.fed.goes.reads) where
+            go : (o : Option (List ℕ)) → IfSome o (λ ys. NextBlock s h1 new ys (Ok (next, false)) last left)
+                → IfSome o (λ ys. FindsNone Done command.ignore_missing_entry h1 steps (over_of s) new ys (over_of next) last left)
+            go None gives = tt
+            go (Some ys) (h2, reads, stands, (effect, found, (zs, is, read))) = record {
+              next = h2;
+              stands = record {
+                fed = record { goes = record { reads = read_ended h2 reads; stands = λ begun. ended h2 (stands (behind.fed.goes.stands begun)) }; counts = counts ∙ behind.fed.counts };
+                written = behind.written;
+              };
+              ys = zs;
+              left_is = is;
+              takes = subst (λ (o : Option Effect). Steps command.ignore_missing_entry (effect_of command.ignore_missing_entry h1) (over_of s) new ys (Ok (record { history = h2; effect = o })) (over_of next) last zs) (no_effect effect found)
+                  (subst (λ (b : Bool). Steps b (effect_of b h1) (over_of s) new ys (Ok (record { history = h2; effect = effect })) (over_of next) last zs) same read);
+            }
 
   -- a fault of the next block is the file's
   pub session_fault : (new : Reading) (o mid left : Option (List ℕ)) (text : List ℕ) (s : Session F) (fault : Fault) → ignores_of s ≡ command.ignore_missing_entry

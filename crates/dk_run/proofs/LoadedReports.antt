@@ -7,7 +7,7 @@ use Rattle.dk_core.specs.Resuming.{IsOfLoaded}
 use Rattle.dk_io.specs.Streams.{Texts}
 use Rattle.dk_io.specs.declared.outside.Stream.TheVariants.{Report}
 use Rattle.dk_state.specs.declared.loading.Loaded.{Loaded}
-use Rattle.dk_words.specs.declared.command.Command.{Command}
+use Rattle.dk_command_line.specs.declared.command.Command.{Command}
 use Rattle.dk_program.specs.Ending.{status_of}
 use Rattle.dk_run.specs.Loaded.{IsFrontOfLoaded, ReportsLoaded}
 use Rattle.dk_run.specs.Reports.{last_report}

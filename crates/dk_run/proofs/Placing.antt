@@ -11,7 +11,7 @@ use Rattle.dk_lines.specs.Reading.{Reading, room_of}
 use Rattle.dk_blocks.specs.History.{History}
 use Rattle.dk_core.specs.Standing.{blocks_of}
 use Rattle.dk_core.specs.declared.session.Session.{Session}
-use Rattle.dk_words.specs.declared.command.Command.{Command}
+use Rattle.dk_command_line.specs.declared.command.Command.{Command}
 use Rattle.dk_driver.proofs.Running.{held_map, read_none, read_on, refused_on, rest_next, rose_since, short_on, unread_on, unstarted_on}
 use Rattle.dk_driver.specs.Files.{file_name_at}
 use Rattle.dk_driver.specs.Reads.{held_file_at, rest_behind}

@@ -14,9 +14,9 @@ use Rattle.dk_lines.specs.Reading.{Reading, room_of}
 use Rattle.dk_blocks.specs.History.{History}
 use Rattle.dk_core.specs.Standing.{SessionStandsFor, blocks_of}
 use Rattle.dk_core.specs.declared.session.Session.{Session}
-use Rattle.dk_words.specs.Requests.{daikon}
-use Rattle.dk_words.specs.Texts.{help_text, usage_line, version_text}
-use Rattle.dk_words.specs.declared.command.Command.{Command}
+use Rattle.dk_command_line.specs.Requests.{daikon}
+use Rattle.dk_command_line.specs.Texts.{help_text, usage_line, version_text}
+use Rattle.dk_command_line.specs.declared.command.Command.{Command}
 use Rattle.dk_arguments.specs.declared.request.Request.{Request}
 use Rattle.dk_arguments.specs.declared.request.Request.TheVariants.{Run, Help, Version}
 use Rattle.dk_driver.specs.Files.{AreHeldFiles, FaultAt, ended_file, file_name_at}

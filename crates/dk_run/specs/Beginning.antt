@@ -11,7 +11,7 @@ use Rattle.dk_state.specs.Spelling.{IsSpelling}
 use Rattle.dk_blocks.specs.History.{History}
 use Rattle.dk_core.specs.Resuming.{HasTableOfState, IsStart, state_file}
 use Rattle.dk_core.specs.Standing.{SessionReadsFor, SessionStandsFor, blocks_of, over_of}
-use Rattle.dk_words.specs.declared.command.Command.{Command}
+use Rattle.dk_command_line.specs.declared.command.Command.{Command}
 use Rattle.dk_driver.specs.Reads.{AtStart, HasBroken, Within}
 use Rattle.dk_program.specs.Moments.{Outside}
 use Rattle.dk_run.specs.Courses.{Outset, total_limit}

@@ -2,11 +2,11 @@
 use Rattle.std.specs.Prelude.{ℕ, nat_eq, Bool, true, List, ◌∷◌, map}
 use Rattle.std.specs.List.{starts_with}
 use Rattle.std.specs.Option.{option_map_or}
+use Rattle.dk_command_line.specs.declared.command.Command.{Command}
 use Rattle.dk_generate.specs.Generated.{generated_text}
 use Rattle.dk_generate.specs.Texts.{generated_name}
 use Rattle.dk_io.specs.Outside.{HeldFile, Holds}
 use Rattle.dk_report.specs.declared.options.Options.{Options}
-use Rattle.dk_words.specs.declared.command.Command.{Command}
 
 -- what reports leave out
 abbrev pub report_options : Command → Options

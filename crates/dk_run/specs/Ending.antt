@@ -2,7 +2,7 @@
 use Rattle.std.specs.Prelude.{◌≡◌, ℕ}
 use Rattle.dk_io.specs.Streams.{Texts}
 use Rattle.dk_io.specs.declared.outside.Stream.TheVariants.{Messages}
-use Rattle.dk_words.specs.declared.command.Command.{Command}
+use Rattle.dk_command_line.specs.declared.command.Command.{Command}
 use Rattle.dk_driver.specs.Files.{file_name_at}
 use Rattle.dk_program.specs.Ending.{EndsWith}
 use Rattle.dk_program.specs.Messages.{fault_line, unread_line}

@@ -7,7 +7,7 @@ use Rattle.dk_io.specs.Outside.{Rose}
 use Rattle.dk_io.specs.Streams.{Texts}
 use Rattle.dk_io.specs.declared.outside.Stream.TheVariants.{Report}
 use Rattle.dk_state.specs.declared.loading.Loaded.{Loaded}
-use Rattle.dk_words.specs.declared.command.Command.{Command}
+use Rattle.dk_command_line.specs.declared.command.Command.{Command}
 use Rattle.dk_run.specs.Reports.{last_report}
 use Rattle.dk_run.specs.Telling.{Added}
 use Rattle.dk_events.specs.declared.ended.Ended.{Ended}

@@ -5,8 +5,8 @@ use Rattle.dk_blocks.specs.History.{History}
 use Rattle.dk_core.specs.Resuming.{state_file}
 use Rattle.dk_generate.specs.Texts.{generated_line}
 use Rattle.dk_io.specs.declared.outside.Stream.TheVariants.{Messages}
-use Rattle.dk_words.specs.Texts.{usage_line}
-use Rattle.dk_words.specs.declared.command.Command.{Command}
+use Rattle.dk_command_line.specs.Texts.{usage_line}
+use Rattle.dk_command_line.specs.declared.command.Command.{Command}
 use Rattle.dk_driver.specs.Files.{FaultAt, File, file_name_at}
 use Rattle.dk_program.specs.Messages.{fault_line, unread_line}
 use Rattle.dk_program.specs.Outputs.{Output, only_on}

@@ -5,7 +5,7 @@ use Rattle.std.specs.Option.{option_map_or}
 use Rattle.dk_blocks.specs.History.{History}
 use Rattle.dk_core.specs.Sections.{all_stats_of, report_of}
 use Rattle.dk_presence.specs.Patterns.{capped}
-use Rattle.dk_words.specs.declared.command.Command.{Command}
+use Rattle.dk_command_line.specs.declared.command.Command.{Command}
 use Rattle.dk_run.specs.Commands.{is_selected, report_options}
 use Rattle.dk_print.specs.Sections.{after_blocks_line, end_line}
 

@@ -5,8 +5,8 @@ use Rattle.dk_base.specs.declared.why.Why.{Why}
 use Rattle.dk_base.specs.declared.why.Why.TheVariants.{BadState, TooLong}
 use Rattle.dk_io.specs.Outside.{DeliversUpTo, HeldFile, Absent, Holds, Rose}
 use Rattle.dk_io.specs.declared.outside.Stream.TheVariants as stream
-use Rattle.dk_words.specs.Texts.{help_text, version_text}
-use Rattle.dk_words.specs.declared.command.Command.{Command}
+use Rattle.dk_command_line.specs.Texts.{help_text, version_text}
+use Rattle.dk_command_line.specs.declared.command.Command.{Command}
 use Rattle.dk_arguments.specs.declared.request.Request.{Request}
 use Rattle.dk_arguments.specs.declared.request.Request.TheVariants.{Run, Help, Version}
 use Rattle.dk_driver.specs.Files.{AreHeldFiles, FaultAt, File, ended_file, file_name_at}

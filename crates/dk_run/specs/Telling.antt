@@ -7,7 +7,7 @@ use Rattle.dk_io.specs.declared.outside.Stream.TheVariants.{Report, State}
 use Rattle.dk_blocks.specs.History.{History}
 use Rattle.dk_core.specs.Standing.{options_of as options_in}
 use Rattle.dk_core.specs.declared.session.Session.{Session}
-use Rattle.dk_words.specs.declared.command.Command.{Command}
+use Rattle.dk_command_line.specs.declared.command.Command.{Command}
 use Rattle.dk_run.specs.Commands.{report_options}
 use Rattle.dk_run.specs.Outputs.{saved_state}
 use Rattle.dk_program.specs.Telling.{HaltHasCause}

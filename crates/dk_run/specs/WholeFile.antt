@@ -8,7 +8,7 @@ use Rattle.dk_lines.specs.Reading.{Reading}
 use Rattle.dk_blocks.specs.History.{History}
 use Rattle.dk_core.specs.Standing.{SessionReadsFor, SessionStandsFor, blocks_of}
 use Rattle.dk_core.specs.declared.session.Session.{Session}
-use Rattle.dk_words.specs.declared.command.Command.{Command}
+use Rattle.dk_command_line.specs.declared.command.Command.{Command}
 use Rattle.dk_driver.specs.Trails.{Outset, Step}
 use Rattle.dk_driver.specs.WholeFile.{ComesToEnd, HasFault, IsBroken, IsShort}
 pub use Rattle.dk_driver.specs.WholeFile.{fresh_reading}

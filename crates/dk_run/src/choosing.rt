@@ -4,9 +4,9 @@ ghost use Rattle.dk_driver.specs.Files.{file_name_at};
 ghost use Rattle.dk_run.specs.Beginning.{state_name};
 ghost use Rattle.dk_run.specs.Commands.{file_names, generated_count, is_selected, report_options};
 
+use dk_command_line::Command;
 use dk_generate::generated_name;
 use dk_report::Options;
-use dk_words::Command;
 
 /// What reports leave out.
 pub(crate) fn options_of(command: &Command) -> Options

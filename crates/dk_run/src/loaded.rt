@@ -9,11 +9,11 @@ ghost use Rattle.dk_run.specs.Loaded.{ReportsLoaded};
 use crate::choosing::{is_selected, options_of};
 use crate::reporting::tell_last;
 use dk_base::NoMemory;
+use dk_command_line::Command;
 use dk_core::Session;
 use dk_events::Ended;
 use dk_io::Sinks;
 use dk_state::Loaded;
-use dk_words::Command;
 use std::alloc::Global;
 
 // Of the points that the selection answers `true` to.

@@ -19,12 +19,12 @@ use crate::choosing::generated_count;
 use crate::reporting::tell_by_the_way;
 use dk_arguments::Word;
 use dk_base::{Fault, List, NoMemory, Text, Why};
+use dk_command_line::Command;
 use dk_core::Session;
 use dk_generate::{generate, generated_name};
 use dk_io::{Failed, Inputs, Sinks, SteadyInputs};
 use dk_lines::Lines;
 use dk_program::Halt;
-use dk_words::Command;
 use std::alloc::Global;
 
 /// Why a file is not read to its end.

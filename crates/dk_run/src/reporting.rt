@@ -14,10 +14,10 @@ ghost use Rattle.dk_run.specs.Telling.{ReportsBy, StateTells, TellsOutcome};
 
 use crate::messages::{after_blocks_line, end_line};
 use dk_base::{PointId, Text};
+use dk_command_line::Command;
 use dk_core::Session;
 use dk_io::{Sinks, Stream};
 use dk_program::{Halt, write};
-use dk_words::Command;
 use std::alloc::Global;
 
 // Writes the section of a point, where it has samples.

@@ -9,11 +9,11 @@ ghost use Rattle.dk_run.specs.Courses.{total_limit};
 
 use crate::choosing::options_of;
 use dk_base::{NoMemory, Text, Why};
+use dk_command_line::Command;
 use dk_core::{LoadFault, Session};
 use dk_driver::FileFault;
 use dk_io::{AllFault, Failed, Inputs, read_all};
 use dk_lines::Limits;
-use dk_words::Command;
 use std::alloc::Global;
 
 /// A session in front of the first file, and how many bytes the files may have together.

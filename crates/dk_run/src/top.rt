@@ -5,8 +5,8 @@ ghost use Rattle.dk_io.specs.Streams.{Texts, with_bytes};
 ghost use Rattle.dk_io.specs.declared.outside.Stream.TheVariants as stream;
 ghost use Rattle.dk_core.specs.Selecting.{SelectsBy};
 ghost use Rattle.dk_core.specs.Standing.{select_of};
-ghost use Rattle.dk_words.specs.Requests.{request_of};
-ghost use Rattle.dk_words.specs.Texts.{usage_line as usage_text};
+ghost use Rattle.dk_command_line.specs.Requests.{request_of};
+ghost use Rattle.dk_command_line.specs.Texts.{usage_line as usage_text};
 ghost use Rattle.dk_arguments.specs.declared.request.Request.TheVariants as request;
 ghost use Rattle.dk_program.specs.Ending.{EndsWith};
 ghost use Rattle.dk_program.specs.Moments.{Outside, outside};
@@ -24,6 +24,7 @@ use crate::choosing::{is_selected, name_at, state_name};
 use crate::reading::{FilesTrouble, read_files, read_generated};
 use crate::reporting::{tell_last, tell_state};
 use crate::starting::{Beginning, begin};
+use dk_command_line::Command;
 use dk_core::Session;
 use dk_driver::FileFault;
 use dk_events::Ended;
@@ -31,7 +32,6 @@ use dk_generate::generated_line;
 use dk_io::{Inputs, Sinks, Stream};
 use dk_lines::{Limits, Lines};
 use dk_program::{Halt, asked_run, tell_file_fault, write};
-use dk_words::Command;
 use std::alloc::Global;
 
 /// Tells that the arguments are refused.

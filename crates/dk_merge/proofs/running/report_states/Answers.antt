@@ -1,6 +1,6 @@
 use Rattle.std.proofs.Common.{subst}
 use Rattle.dk_merging.specs.Loading.{text_of}
-use Rattle.dk_words.specs.declared.command.Command.{Command}
+use Rattle.dk_command_line.specs.declared.command.Command.{Command}
 use Rattle.dk_run.specs.Loaded.{ReportsLoaded}
 use Rattle.dk_merge.proofs.StateReports.{report_ends}
 use Rattle.dk_merge.proofs.running.report_states.Goals as goal

@@ -3,7 +3,7 @@ use Rattle.dk_io.specs.NamedFiles.{Files, held_or_empty}
 use Rattle.dk_run.proofs.Placing.{own_held}
 use Rattle.dk_program.specs.Moments.{Outside, outside}
 use Rattle.dk_run.specs.Statuses.{Says}
-use Rattle.dk_words.specs.declared.command.Command.{Command}
+use Rattle.dk_command_line.specs.declared.command.Command.{Command}
 use Rattle.dk_arguments.specs.declared.request.Request.TheVariants.{Run}
 use Rattle.dk_merge.proofs.TurnsRuns.{turns_early, turns_end}
 use Rattle.dk_merge.specs.Outputs.{turns_name}

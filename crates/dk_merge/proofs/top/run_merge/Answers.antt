@@ -10,9 +10,9 @@ use Rattle.dk_merge.proofs.Histories.{histories_say, no_run_merges}
 use Rattle.dk_merge.proofs.Recorders.{no_run_writes, recorders_say}
 use Rattle.dk_merge.proofs.Saying.{run_says, says_more}
 use Rattle.dk_merge.specs.Statuses.{IsCalmlyComplete, RunComesTo}
-use Rattle.dk_merge_words.proofs.Whole.{file_named, numbers_within}
-use Rattle.dk_merge_words.specs.Requests.{dk_merge, request_of}
-use Rattle.dk_merge_words.specs.declared.command.Command.{Command}
+use Rattle.dk_merge_command_line.proofs.Whole.{file_named, numbers_within}
+use Rattle.dk_merge_command_line.specs.Requests.{dk_merge, request_of}
+use Rattle.dk_merge_command_line.specs.declared.command.Command.{Command}
 use Rattle.dk_merge.proofs.top.run_merge.Goals as goal
 
 one_at_least : (turns : Option ℕ) → IfSome turns (IsWithin 1 largest_count) → IfSome turns (λ n. 1 ≤ n)

@@ -1,8 +1,8 @@
 use Rattle.std.proofs.Common.{Option, subst, sym}
 use Rattle.dk_arguments.specs.declared.request.Request.{Request}
+use Rattle.dk_command_line.specs.Requests.{request_of}
+use Rattle.dk_command_line.specs.declared.command.Command.{Command}
 use Rattle.dk_program.specs.Statuses.{IsARun}
-use Rattle.dk_words.specs.Requests.{request_of}
-use Rattle.dk_words.specs.declared.command.Command.{Command}
 use Rattle.dk_run.proofs.Complete.{complete_says, without_run_completes}
 use Rattle.dk_run.proofs.Saying.{run_says, without_run_says}
 use Rattle.dk_run.proofs.top.run.Goals as goal

@@ -1,0 +1,9 @@
+//! The command line of `dk_merge`: what its words ask for, as `clap` reads them, and the texts that tell of them.
+#![tactic(auto)]
+
+mod command;
+pub mod laws;
+mod texts;
+
+pub use command::Command;
+pub use texts::{help_text, usage_line, version_text};

@@ -1,5 +1,0 @@
-use Rattle.dk_merge_words.proofs.Whole.{file_named}
-use Rattle.dk_merge_words.proofs.laws.some_file_is_named.Goals as goal
-
-pub returns : goal.returns
-returns c = file_named

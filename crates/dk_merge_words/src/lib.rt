@@ -1,9 +1,0 @@
-//! The words of the command `dk_merge`: what they ask for, as `clap` reads them, and the texts that tell of them.
-#![tactic(auto)]
-
-mod command;
-pub mod laws;
-mod texts;
-
-pub use command::Command;
-pub use texts::{help_text, usage_line, version_text};

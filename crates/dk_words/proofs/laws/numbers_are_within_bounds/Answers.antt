@@ -1,5 +1,0 @@
-use Rattle.dk_words.proofs.Bounds.{within_bounds}
-use Rattle.dk_words.proofs.laws.numbers_are_within_bounds.Goals as goal
-
-pub returns : goal.returns
-returns c = within_bounds
