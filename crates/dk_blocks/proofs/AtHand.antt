@@ -30,7 +30,7 @@ use Rattle.dk_blocks.specs.Reading.{after_next}
 use Rattle.dk_blocks.specs.Standing.{Closes, Stands, left_with_answer}
 use Rattle.dk_blocks.specs.Steps.{Steps, behind_block, groups_left}
 use Rattle.dk_blocks.specs.declared.found.Found.{Found}
-use Rattle.dk_blocks.specs.declared.kept.Kept.{Kept}
+use Rattle.dk_blocks.specs.declared.kept.ReaderParts.{ReaderParts}
 use Rattle.dk_blocks.specs.declared.reader.Stop.TheVariants.{Read}
 use Rattle.dk_blocks.proofs.Fronting.{at_record, samples}
 use Rattle.dk_blocks.proofs.LastLines.{last_passed}
@@ -87,7 +87,7 @@ are_lines r ps n w s =
 
 -- ---- what the record does
 
-sampled : (ignores : Bool) (kept : Kept) (h : History) (n : ℕ) (bytes : List ℕ) (w : Whole) → Stands kept h → (at : IsAtHand kept n bytes w)
+sampled : (ignores : Bool) (kept : ReaderParts) (h : History) (n : ℕ) (bytes : List ℕ) (w : Whole) → Stands kept h → (at : IsAtHand kept n bytes w)
     → effect_of ignores h (numbered_lines n (at.stands.first ∷ at.stands.rest)) (Some (n + length (at.stands.first ∷ at.stands.rest))) ≡ with_record ignores h (shown w.sample)
 unfolding Stands
 sampled ignores kept h n bytes w stands at =
@@ -103,7 +103,7 @@ sampled ignores kept h n bytes w stands at =
     ∙ s.reads)
 
 -- reading on, of a file that ends or is cut off
-pub taken : (ignores : Bool) (kept : Kept) (h : History) (r new : Reading) (w : Whole) → Stands kept h → (at : IsAtHand kept (r.number + 1) (ready_of r) w) → PassesLines r (all_lines at.stands) new
+pub taken : (ignores : Bool) (kept : ReaderParts) (h : History) (r new : Reading) (w : Whole) → Stands kept h → (at : IsAtHand kept (r.number + 1) (ready_of r) w) → PassesLines r (all_lines at.stands) new
     → (is_ended : Bool) (ys : List ℕ) → after_next ignores (effect_of ignores h) (groups_left false r is_ended (take w.used r.ahead ++ ys))
     ≡ next_from ignores (groups_left false new is_ended ys) (with_record ignores h (shown w.sample))
 taken ignores kept h r new w stands at passes is_ended ys =
@@ -133,7 +133,7 @@ some_used r w ps n s =
     let many = s.many in
     omega (arith, lines.1, many)
 
-found_steps : (ignores : Bool) (kept : Kept) (h h' : History) (r new : Reading) (w : Whole) (found : Found) (bs : List ℕ) → Stands kept h → (at : IsAtHand kept (r.number + 1) (ready_of r) w)
+found_steps : (ignores : Bool) (kept : ReaderParts) (h h' : History) (r new : Reading) (w : Whole) (found : Found) (bs : List ℕ) → Stands kept h → (at : IsAtHand kept (r.number + 1) (ready_of r) w)
     → IsBehind r w new → PassesLines r (all_lines at.stands) new → with_record ignores h (shown w.sample) ≡ outcome_of h' (Some found)
     → Steps ignores (effect_of ignores h) false r (r.ahead ++ bs) (outcome_of h' (Some found)) false new (drop w.used r.ahead ++ bs)
 found_steps ignores kept h h' r new w found bs stands at behind passes closes =
@@ -158,7 +158,7 @@ found_steps ignores kept h h' r new w found bs stands at behind passes closes =
       cut = λ d rest e. inl (on false d);
     }
 
-refused_here : (ignores : Bool) (kept : Kept) (h : History) (r new : Reading) (w : Whole) (fault : LineFault) (bs : List ℕ) → Stands kept h → (at : IsAtHand kept (r.number + 1) (ready_of r) w)
+refused_here : (ignores : Bool) (kept : ReaderParts) (h : History) (r new : Reading) (w : Whole) (fault : LineFault) (bs : List ℕ) → Stands kept h → (at : IsAtHand kept (r.number + 1) (ready_of r) w)
     → PassesLines r (all_lines at.stands) new → with_record ignores h (shown w.sample) ≡ Err fault
     → after_next ignores (effect_of ignores h) (groups_left false r true (r.ahead ++ bs)) ≡ Err fault
 refused_here ignores kept h r new w fault bs stands at passes closes =
@@ -172,7 +172,7 @@ left_now : (r : Reading) (w : Whole) (new : Reading) (bs : List ℕ) → IsBehin
 left_now r w new bs behind = ap (λ (x : Reading). left_of x (Some bs)) behind
 
 -- a record that is found
-pub found_gives : (ignores : Bool) (kept after : Kept) (h : History) (r new : Reading) (w : Whole) (found : Option Found) → Stands kept h → (at : IsAtHand kept (r.number + 1) (ready_of r) w)
+pub found_gives : (ignores : Bool) (kept after : ReaderParts) (h : History) (r new : Reading) (w : Whole) (found : Option Found) → Stands kept h → (at : IsAtHand kept (r.number + 1) (ready_of r) w)
     → IsBehind r w new → PassesLines r (all_lines at.stands) new → is_some found ≡ true → (h' : History) → Stands after h' → with_record ignores h (shown w.sample) ≡ outcome_of h' found
     → (rest : Option (List ℕ)) → HandGives ignores h r after (Ok found) new rest
 found_gives ignores kept after h r new w None stands at behind passes some h' stands' closes rest = absurd (cc (some))
@@ -188,7 +188,7 @@ found_gives ignores kept after h r new w (Some found) stands at behind passes so
 )
 
 -- a record that is refused
-pub fault_gives : (ignores : Bool) (kept after : Kept) (h : History) (r new : Reading) (w : Whole) (f : BlockFault) → Stands kept h → (at : IsAtHand kept (r.number + 1) (ready_of r) w)
+pub fault_gives : (ignores : Bool) (kept after : ReaderParts) (h : History) (r new : Reading) (w : Whole) (f : BlockFault) → Stands kept h → (at : IsAtHand kept (r.number + 1) (ready_of r) w)
     → PassesLines r (all_lines at.stands) new → Closes (left_with_answer after (let e : Result (Option Found) BlockFault = Err f in e)) (with_record ignores h (shown w.sample))
     → (rest : Option (List ℕ)) → HandGives ignores h r after (Err (stop_of_fault f)) new rest
 fault_gives ignores kept after h r new w (fault.Refused line why) stands at passes closes None = tt

@@ -26,7 +26,7 @@ use Rattle.dk_blocks.specs.Fitting.{CallFits, Extends, FitAt, WaitingFit}
 use Rattle.dk_blocks.specs.History.{History, Taken, base_values, block, block_by, declared_effect, or_left_out, with_declaration, with_record, with_table, with_values}
 use Rattle.dk_blocks.specs.Keeping.{Keeping}
 use Rattle.dk_blocks.specs.Standing.{Closes, DeclaredAs, IsBetweenFiles, Stands}
-use Rattle.dk_blocks.specs.declared.kept.Kept.{Kept}
+use Rattle.dk_blocks.specs.declared.kept.ReaderParts.{ReaderParts}
 
 -- ---- samples
 
@@ -109,7 +109,7 @@ recorded_left h ps s fault table is =
 -- ---- what a history is kept as
 
 -- another header is in force
-pub with_header : (kept kept' : Kept) (h : History) (header : Header) → Stands kept h → kept'.points ≡ kept.points → kept'.header ≡ header → kept'.calls ≡ kept.calls
+pub with_header : (kept kept' : ReaderParts) (h : History) (header : Header) → Stands kept h → kept'.points ≡ kept.points → kept'.header ≡ header → kept'.calls ≡ kept.calls
     → Stands kept' (record h { header = header })
 unfolding Stands
 with_header kept kept' h header stands points is calls = record {

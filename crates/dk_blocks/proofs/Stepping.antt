@@ -37,7 +37,7 @@ use Rattle.dk_points.specs.Table.{Point}
 use Rattle.dk_points.specs.declared.declared.Declared.{Declared}
 use Rattle.dk_blocks.specs.declared.found.Found.{Found}
 use Rattle.dk_blocks.specs.declared.found.Found.TheVariants as found
-use Rattle.dk_blocks.specs.declared.kept.Kept.{Kept}
+use Rattle.dk_blocks.specs.declared.kept.ReaderParts.{ReaderParts}
 use Rattle.dk_blocks.specs.Turns.{Turn, Goes, Ends as Stands_end, Ending}
 use Rattle.dk_blocks.specs.declared.reader.Reader.{Reader}
 
@@ -296,11 +296,11 @@ never_read_end (Err NoMemory) shape e = cc (e)
 
 -- ---- line after line
 
-abbrev pub Goes_to : Bool → Reads Taken → Reading → List ℕ → Kept → Block → Reading → Option (List ℕ) → Type 0
+abbrev pub Goes_to : Bool → Reads Taken → Reading → List ℕ → ReaderParts → Block → Reading → Option (List ℕ) → Type 0
 Goes_to ignores read r xs kept block new left = TurnGives ignores read r xs (Ok (Goes kept block)) new left
 
 -- no line was read yet
-pub begun : (ignores : Bool) (h : History) (kept : Kept) (block : Block) (r : Reading) (o : Option (List ℕ)) → Stands kept h
+pub begun : (ignores : Bool) (h : History) (kept : ReaderParts) (block : Block) (r : Reading) (o : Option (List ℕ)) → Stands kept h
     → ((ls : List Line) (close : Option ℕ) → block_resumed ignores h block ls close ≡ effect_of ignores h ls close) → IfSome o (λ xs. Goes_to ignores (effect_of ignores h) r xs kept block r o)
 begun ignores h kept block r None stands begins = tt
 begun ignores h kept block r (Some xs) stands begins = (
@@ -366,7 +366,7 @@ stops_on ignores read mid r new xs ys left a b = record {
   fine = elim (a.cut b.front b.rest b.split) [ inl same ↦ subst IsNoBlock (sym same) b.fine | inr none ↦ none.1 ];
 }
 
-pub turn_on : (ignores : Bool) (read : Reads Taken) (r new last : Reading) (xs : List ℕ) (kept : Kept) (block : Block) (mid left : Option (List ℕ)) (result : Result Turn Stop)
+pub turn_on : (ignores : Bool) (read : Reads Taken) (r new last : Reading) (xs : List ℕ) (kept : ReaderParts) (block : Block) (mid left : Option (List ℕ)) (result : Result Turn Stop)
     → Goes_to ignores read r xs kept block new mid
     → ((h : History) → Stands kept h → IfSome mid (λ ys. TurnGives ignores (block_resumed ignores h block) new ys result last left))
     → TurnGives ignores read r xs result last left
@@ -378,7 +378,7 @@ turn_on ignores read r new last xs kept block mid left result (h, stands, (ys, i
   go (Err Read) gives = stops_on ignores read (block_resumed ignores h block) r new xs ys left moves gives
   go (Err NoMemory) gives = tt
 
-pub told_on : (ignores : Bool) (read : Reads Taken) (r new last : Reading) (o mid left : Option (List ℕ)) (kept : Kept) (block : Block) (result : Result Turn Stop)
+pub told_on : (ignores : Bool) (read : Reads Taken) (r new last : Reading) (o mid left : Option (List ℕ)) (kept : ReaderParts) (block : Block) (result : Result Turn Stop)
     → IfSome o (λ xs. Goes_to ignores read r xs kept block new mid)
     → ((h : History) → Stands kept h → IfSome mid (λ ys. TurnGives ignores (block_resumed ignores h block) new ys result last left))
     → IfSome o (λ xs. TurnGives ignores read r xs result last left)
@@ -469,34 +469,34 @@ empty_len (b ∷ bs) = eqb-suc-zero (length bs)
 
 -- ---- one line, whose end of a block is made apart
 
-pub words_step : (ignores : Bool) (kept : Kept) (read : Reads Taken) (line : Line) (block : Block) → is_blank_line line ≡ false → WordsGive ignores read (trimmed_line line) (Ok (Goes kept block)) → LineStep ignores kept block read line (Ok More)
+pub words_step : (ignores : Bool) (kept : ReaderParts) (read : Reads Taken) (line : Line) (block : Block) → is_blank_line line ≡ false → WordsGive ignores read (trimmed_line line) (Ok (Goes kept block)) → LineStep ignores kept block read line (Ok More)
 words_step ignores kept read line block words gives = words_line ignores read line (Ok (Goes kept block)) words gives
 
-pub words_fault : (ignores : Bool) (kept : Kept) (block : Block) (read : Reads Taken) (line : Line) (stop : Stop) → is_blank_line line ≡ false → WordsGive ignores read (trimmed_line line) (Err stop) → LineStep ignores kept block read line (Err stop)
+pub words_fault : (ignores : Bool) (kept : ReaderParts) (block : Block) (read : Reads Taken) (line : Line) (stop : Stop) → is_blank_line line ≡ false → WordsGive ignores read (trimmed_line line) (Err stop) → LineStep ignores kept block read line (Err stop)
 words_fault ignores kept block read line stop words gives = words_line ignores read line (Err stop) words gives
 
-pub blank_step : (ignores : Bool) (kept : Kept) (read : Reads Taken) (line : Line) (block : Block) → is_blank_line line ≡ true → LineStep ignores kept block read line (Ok (Ended line.number false))
+pub blank_step : (ignores : Bool) (kept : ReaderParts) (read : Reads Taken) (line : Line) (block : Block) → is_blank_line line ≡ true → LineStep ignores kept block read line (Ok (Ended line.number false))
 blank_step ignores kept read line block blank turn gives = blank_line ignores read line turn blank gives
 
-pub step_line : (ignores : Bool) (h : History) (kept : Kept) (b block : Block) (old new : Reading) (o left : Option (List ℕ)) (line : Line) (result : Result Step Stop)
+pub step_line : (ignores : Bool) (h : History) (kept : ReaderParts) (b block : Block) (old new : Reading) (o left : Option (List ℕ)) (line : Line) (result : Result Step Stop)
     → IsNextLine old o (Ok (Some line)) new left → LineStep ignores kept block (block_resumed ignores h b) line result → IfSome o (λ xs. StepGives ignores kept block (block_resumed ignores h b) old xs result new left)
 step_line ignores h kept b block old new None left line result next does = tt
 step_line ignores h kept b block old new (Some xs) left line (Ok More) next does = told_line ignores h b old new (Some xs) left line (Ok (Goes kept block)) next does
 step_line ignores h kept b block old new (Some xs) left line (Ok (Ended number over)) next does = λ turn closes. told_line ignores h b old new (Some xs) left line turn next (does turn closes)
 step_line ignores h kept b block old new (Some xs) left line (Err stop) next does = told_line ignores h b old new (Some xs) left line (Err stop) next does
 
-pub step_end : (ignores : Bool) (h : History) (kept : Kept) (b block : Block) (old new : Reading) (o left : Option (List ℕ)) (number : ℕ) → number ≡ old.number + 1
+pub step_end : (ignores : Bool) (h : History) (kept : ReaderParts) (b block : Block) (old new : Reading) (o left : Option (List ℕ)) (number : ℕ) → number ≡ old.number + 1
     → IsNextLine old o (Ok None) new left → IfSome o (λ xs. StepGives ignores kept block (block_resumed ignores h b) old xs (Ok (Ended number true)) new left)
 step_end ignores h kept b block old new None left number is next = tt
 step_end ignores h kept b block old new (Some xs) left number is next =
     λ turn closes. told_end ignores h b old new (Some xs) left turn next (subst (λ (n : ℕ). EndGives ignores (block_resumed ignores h b) n turn) is closes)
 
-pub step_fault : (ignores : Bool) (h : History) (kept : Kept) (b block : Block) (old new : Reading) (o left : Option (List ℕ)) (fault : fault.LineFault)
+pub step_fault : (ignores : Bool) (h : History) (kept : ReaderParts) (b block : Block) (old new : Reading) (o left : Option (List ℕ)) (fault : fault.LineFault)
     → IsNextLine old o (Err fault) new left → IfSome o (λ xs. StepGives ignores kept block (block_resumed ignores h b) old xs (Err (stop_of_unread fault)) new left)
 step_fault ignores h kept b block old new None left fault next = tt
 step_fault ignores h kept b block old new (Some xs) left fault next = told_fault ignores h b old new (Some xs) left fault next
 
-pub step_counts : (kept : Kept) (b block : Block) (old new : Reading) (o left : Option (List ℕ)) (line : Line) (result : Result Step Stop)
+pub step_counts : (kept : ReaderParts) (b block : Block) (old new : Reading) (o left : Option (List ℕ)) (line : Line) (result : Result Step Stop)
     → IsNextLine old o (Ok (Some line)) new left → LineStepShape kept b block result → StepCounts old result new
 step_counts kept b block old new o left line (Ok More) gives shape = (gives.limits_stay, gives.counts.2, gives.counts.4, gives.counts.5)
 step_counts kept b block old new o left line (Ok (Ended number over)) gives shape = λ turn closes. counts_line old new o left line turn gives (subst (λ (o : Bool). ShapeAt o turn) shape.1 closes)
@@ -505,12 +505,12 @@ step_counts kept b block old new o left line (Err e) gives shape = gives.limits_
 pub end_counts : (old new : Reading) (o left : Option (List ℕ)) (number : ℕ) → IsNextLine old o (Ok None) new left → StepCounts old (Ok (Ended number true)) new
 end_counts old new o left number gives = λ turn closes. counts_end old new o left turn gives closes
 
-pub line_step_shape : (kept : Kept) (b block : Block) (result : Result Step Stop) → LineStepShape kept b block result → StepShape kept b block result
+pub line_step_shape : (kept : ReaderParts) (b block : Block) (result : Result Step Stop) → LineStepShape kept b block result → StepShape kept b block result
 line_step_shape kept b block (Ok More) shape = shape
 line_step_shape kept b block (Ok (Ended number over)) shape = shape.0
 line_step_shape kept b block (Err stop) shape = tt
 
-pub never_read_step : (kept : Kept) (b block : Block) (result : Result Step Stop) → LineStepShape kept b block result → IsErrOf result Read → ⊥
+pub never_read_step : (kept : ReaderParts) (b block : Block) (result : Result Step Stop) → LineStepShape kept b block result → IsErrOf result Read → ⊥
 never_read_step kept b block (Ok More) shape e = cc (e)
 never_read_step kept b block (Ok (Ended number over)) shape e = cc (e)
 never_read_step kept b block (Err (Refused line why)) shape e = cc (e)
@@ -523,12 +523,12 @@ pub never_read_at : (over : Bool) (turn : Result Turn Stop) → ShapeAt over tur
 never_read_at true turn shape e = never_read_end turn shape e
 never_read_at false turn shape e = never_read_line turn shape e
 
-pub fits_at : (over : Bool) (kept : Kept) (block : Block) → ShapeAt over (Ok (Goes kept block)) → Fits kept block
+pub fits_at : (over : Bool) (kept : ReaderParts) (block : Block) → ShapeAt over (Ok (Goes kept block)) → Fits kept block
 fits_at true kept block shape = absurd shape
 fits_at false kept block shape = shape
 
 -- the turn that a line and the end of its block make
-pub closed_on : (ignores : Bool) (h : History) (kept : Kept) (b block : Block) (r new : Reading) (number : ℕ) (over : Bool) (o left : Option (List ℕ)) (turn : Result Turn Stop)
+pub closed_on : (ignores : Bool) (h : History) (kept : ReaderParts) (b block : Block) (r new : Reading) (number : ℕ) (over : Bool) (o left : Option (List ℕ)) (turn : Result Turn Stop)
     → block ≡ b → IfSome o (λ xs. StepGives ignores kept block (block_resumed ignores h b) r xs (Ok (Ended number over)) new left) → ClosesAt ignores over (block_resumed ignores h block) number turn
     → IfSome o (λ xs. TurnGives ignores (block_resumed ignores h b) r xs turn new left)
 closed_on ignores h kept b block r new number over None left turn same gives closes = tt
@@ -542,7 +542,7 @@ pub block_answers : (ignores : Bool) (s : Reader) (h : History) (r new : Reading
 block_answers ignores s h r new None left end a begun kept over found gives = tt
 block_answers ignores s h r new (Some xs) left end a begun kept over found (h', stands, (ys, is, steps)) = (
   h',
-  subst (λ (k : Kept). Stands k h') (sym kept) stands,
+  subst (λ (k : ReaderParts). Stands k h') (sym kept) stands,
   (
     ys,
     is,

@@ -11,23 +11,23 @@ use Rattle.dk_blocks.specs.LineSteps.{BlockGives}
 use Rattle.dk_blocks.specs.Standing.{Stands}
 use Rattle.dk_blocks.specs.Steps.{Grown}
 use Rattle.dk_blocks.specs.declared.found.Found.{Found}
-use Rattle.dk_blocks.specs.declared.kept.Kept.{Kept}
+use Rattle.dk_blocks.specs.declared.kept.ReaderParts.{ReaderParts}
 use Rattle.dk_blocks.specs.declared.reader.Stop.{Stop}
 
 -- a block of this first line is a sample record, and neither a comment nor a header line stands in front of it
-abbrev pub BeginsRecord : Kept → List ℕ → Type 0
+abbrev pub BeginsRecord : ReaderParts → List ℕ → Type 0
 BeginsRecord kept first = (ignores : Bool) (h : History) → Stands kept h → (n : ℕ) (ls : List Line) (close : Option ℕ)
     → effect_of ignores h (record { number = n; bytes = first } ∷ ls) close ≡ after_sample ignores h (record { number = n; bytes = first }) ls close
 
 -- The bytes begin with a whole block that is a sample record, the first line of which has the number n; its values are of its variables.
-pub record IsAtHand (kept : Kept) (n : ℕ) (bytes : List ℕ) (w : Whole) : Type 0 where
+pub record IsAtHand (kept : ReaderParts) (n : ℕ) (bytes : List ℕ) (w : Whole) : Type 0 where
   pub stands : StandsWhole kept.points n bytes w
   pub begins : BeginsRecord kept (take w.first_len bytes)
   pub fits : FitAt kept.points w.sample.point.0 (values_of w.sample.values.now)
 
 -- What is said of the next block where it is read in the bytes at hand, with what is kept then, whatever is still to be read of the
 -- file. Where it isn't, nothing is.
-abbrev pub HandGives : Bool → History → Reading → Kept → Result (Option Found) Stop → Reading → Option (List ℕ) → Type 0
+abbrev pub HandGives : Bool → History → Reading → ReaderParts → Result (Option Found) Stop → Reading → Option (List ℕ) → Type 0
 HandGives ignores h r kept (Ok None) r' rest = ⊤
 HandGives ignores h r kept (Ok (Some found)) r' rest = IfSome (left_of r rest) (λ xs.
     BlockGives ignores (effect_of ignores h) false r xs (Ok (record { kept = kept; is_over = false; found = Some found })) r' (left_of r' rest))

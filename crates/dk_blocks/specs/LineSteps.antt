@@ -15,7 +15,7 @@ use Rattle.dk_blocks.specs.LastLines.{LeavesBlank}
 use Rattle.dk_blocks.specs.Reading.{after_next}
 use Rattle.dk_blocks.specs.Standing.{Fits, Stands, block_resumed}
 use Rattle.dk_blocks.specs.declared.block.Block.{Block}
-use Rattle.dk_blocks.specs.declared.kept.Kept.{Kept}
+use Rattle.dk_blocks.specs.declared.kept.ReaderParts.{ReaderParts}
 use Rattle.dk_blocks.specs.declared.reader.Step.{Step}
 use Rattle.dk_blocks.specs.declared.reader.Step.TheVariants.{More, Ended}
 use Rattle.dk_base.specs.declared.faults.Fault.{Fault}
@@ -129,7 +129,7 @@ EndShape (Err Read) = ⊥
 EndShape (Err NoMemory) = ⊤
 
 -- the turn of a line that isn't blank
-abbrev pub line_turn : Kept → Result Block Stop → Result Turn Stop
+abbrev pub line_turn : ReaderParts → Result Block Stop → Result Turn Stop
 line_turn kept (Ok block) = Ok (Goes kept block)
 line_turn kept (Err stop) = Err stop
 
@@ -144,25 +144,25 @@ ShapeAt false turn = LineShape turn
 
 -- What a line does to a block, which is `block` then, whatever follows it: the block has a line more, or it ends, and then does what its
 -- end comes to.
-abbrev pub LineStep : Bool → Kept → Block → Reads Taken → Line → Result Step Stop → Type 0
+abbrev pub LineStep : Bool → ReaderParts → Block → Reads Taken → Line → Result Step Stop → Type 0
 LineStep ignores kept block read line (Ok More) = LineGives ignores read line (Ok (Goes kept block))
 LineStep ignores kept block read line (Ok (Ended number is_over)) =
     (turn : Result Turn Stop) → ClosesAt ignores is_over read number turn → LineGives ignores read line turn
 LineStep ignores kept block read line (Err stop) = LineGives ignores read line (Err stop)
 
 -- a block with a line more fits what is kept; a line that isn't read ends no block
-abbrev pub LineStepShape : Kept → Block → Block → Result Step Stop → Type 0
+abbrev pub LineStepShape : ReaderParts → Block → Block → Result Step Stop → Type 0
 LineStepShape kept old block (Ok More) = Fits kept block
 LineStepShape kept old block (Ok (Ended number is_over)) = (block ≡ old) × (is_over ≡ false)
 LineStepShape kept old block (Err stop) = LineShape (Err stop)
 
-abbrev pub StepShape : Kept → Block → Block → Result Step Stop → Type 0
+abbrev pub StepShape : ReaderParts → Block → Block → Result Step Stop → Type 0
 StepShape kept old block (Ok More) = Fits kept block
 StepShape kept old block (Ok (Ended number is_over)) = block ≡ old
 StepShape kept old block (Err stop) = ⊤
 
 -- what one line does to a block, which is `block` then, of the bytes that are left
-abbrev pub StepGives : Bool → Kept → Block → Reads Taken → Reading → List ℕ → Result Step Stop → Reading → Option (List ℕ) → Type 0
+abbrev pub StepGives : Bool → ReaderParts → Block → Reads Taken → Reading → List ℕ → Result Step Stop → Reading → Option (List ℕ) → Type 0
 StepGives ignores kept block read r xs (Ok More) r' left' = TurnGives ignores read r xs (Ok (Goes kept block)) r' left'
 StepGives ignores kept block read r xs (Ok (Ended number is_over)) r' left' =
     (turn : Result Turn Stop) → ClosesAt ignores is_over read number turn → TurnGives ignores read r xs turn r' left'

@@ -17,18 +17,18 @@ use Rattle.dk_blocks.specs.declared.block.Block.{Block}
 use Rattle.dk_blocks.specs.declared.block.State.{State}
 use Rattle.dk_blocks.specs.declared.block.State.TheVariants as state
 use Rattle.dk_blocks.specs.declared.found.Found.{Found}
-use Rattle.dk_blocks.specs.declared.kept.Kept.{Kept}
+use Rattle.dk_blocks.specs.declared.kept.ReaderParts.{ReaderParts}
 use Rattle.dk_blocks.specs.declared.reader.Reader.{Reader}
 
 -- What a reader keeps from block to block stands for a history: it has the points, the header and the entries that wait. The history has
 -- samples of each point, which the reader doesn't keep.
-pub record KeepsAll (kept : Kept) (h : History) : Type 0 where
+pub record KeepsAll (kept : ReaderParts) (h : History) : Type 0 where
   pub table : kept.points ≡ h.table
   pub header : kept.header ≡ h.header
   pub calls : CallsStandFor kept.calls h.calls
   pub many : length h.samples ≡ length h.table
 
-unfoldable pub Stands : Kept → History → Type 0
+unfoldable pub Stands : ReaderParts → History → Type 0
 Stands kept h = KeepsAll kept h
 
 -- what a block so far says of the lines that are left; the header is that behind its header lines
@@ -50,7 +50,7 @@ StateFits ps (state.Declaration line reader) = DeclaresFitting reader
 StateFits ps state.Implementors = ⊤
 StateFits ps (state.Record reader) = IsOf ps reader × ReadsFitting ps reader
 
-unfoldable pub Fits : Kept → Block → Type 0
+unfoldable pub Fits : ReaderParts → Block → Type 0
 Fits kept b = StateFits kept.points b.state
 
 -- the lines so far are the front of a declaration
@@ -81,13 +81,13 @@ BlockGoesOn ignores h (Ok b) read = (ls : List Line) (close : Option ℕ) → re
 BlockGoesOn ignores h (Err e) read = FaultAgreesOnward e read
 
 -- The block's end gives what was read, or the fault that was.
-abbrev pub Closes : Result (Kept × Option Found) BlockFault → Result Taken LineFault → Type 0
+abbrev pub Closes : Result (ReaderParts × Option Found) BlockFault → Result Taken LineFault → Type 0
 Closes (Ok r) read = (h : History) × Stands r.0 h × (read ≡ outcome_of h r.1)
 Closes (Err (Refused line why)) read = read ≡ Err (record { line = line; why = why })
 Closes (Err NoMemory) read = ⊤
 
 -- So does a declaration that is taken.
-abbrev pub DeclaredAs : Result (Kept × Declared) BlockFault → Result Taken LineFault → Type 0
+abbrev pub DeclaredAs : Result (ReaderParts × Declared) BlockFault → Result Taken LineFault → Type 0
 DeclaredAs (Ok r) read = (h : History) × Stands r.0 h × (read ≡ Ok (block_by (declared_effect r.1) h))
 DeclaredAs (Err (Refused line why)) read = read ≡ Err (record { line = line; why = why })
 DeclaredAs (Err NoMemory) read = ⊤

@@ -32,7 +32,7 @@ use std::mem::replace;
 /// What a reader keeps from block to block: the table of points, what the header lines have put in force, the entries of the file that
 /// wait, and the points that had a record last.
 #[derive(Drop)]
-pub(crate) struct Kept {
+pub(crate) struct ReaderParts {
     alloc: Global,
     points: Points,
     header: Header,
@@ -40,7 +40,7 @@ pub(crate) struct Kept {
     recent: Recent,
 }
 
-impl Model for Kept {
+impl Model for ReaderParts {
     ghost use Rattle.std.specs.Coded.{codes};
     ghost use Rattle.dk_calls.specs.contracts.calls.Calls as waiting;
     ghost use Rattle.dk_blocks.specs.Keeping.{IsSound, Keeping};
@@ -98,16 +98,16 @@ fn or_left_out<'a>(ignores: bool, fault: BlockFault) -> Result<Option<Found<'a>>
     }
 }
 
-impl Kept {
+impl ReaderParts {
     ghost use Rattle.dk_blocks.specs.Standing.{Stands, Fits, BlockGoesOn, Closes, DeclaredAs, IsBetweenFiles, IsDeclared, left_behind, left_with_answer, block_resumed, resumed_by};
 
     /// What is kept before the first block: no points.
     #[tactic(auto, unfolding(crate::specs::Standing::Stands))]
-    pub(crate) fn new(alloc: Global) -> Result<Kept, NoMemory>
+    pub(crate) fn new(alloc: Global) -> Result<ReaderParts, NoMemory>
         ensures stands { IfOk result (λ kept. (grammar : Grammar) → Stands kept (nothing_by grammar)) }
         ensures points { IfOk result (λ kept. kept.points ≡ []) }
     {
-        Ok(Kept {
+        Ok(ReaderParts {
             alloc,
             points: Points::new(alloc)?,
             header: Header::new(),
@@ -117,14 +117,19 @@ impl Kept {
     }
 
     /// These points, and this comparability word in force: `implicit`, or else `none`. No entry waits.
-    pub(crate) fn of_table(alloc: Global, points: Points, implicit: bool, calls: Calls) -> Kept
+    pub(crate) fn of_table(
+        alloc: Global,
+        points: Points,
+        implicit: bool,
+        calls: Calls,
+    ) -> ReaderParts
         requires constants { ConstantsFit points }
         requires calls { CallsStandFor calls [] }
         ensures stands { (h : History) → IsBetweenFiles h → points ≡ h.table → implicit ≡ is_implicit h.header → Stands result h }
         ensures points { result.points ≡ points }
         ensures word { is_implicit result.header ≡ implicit }
     {
-        Kept {
+        ReaderParts {
             alloc,
             points,
             header: Header::with_word(implicit),
@@ -386,12 +391,12 @@ impl Kept {
         self,
         line: u64,
         decl: PointDecl,
-    ) -> Result<(Kept, Declared), BlockFault>
+    ) -> Result<(ReaderParts, Declared), BlockFault>
         requires { HasFittingConstants decl }
         ensures gives { (h : History) → Stands self h → DeclaredAs result (with_declaration h line decl) }
         ensures points { IfOk result (λ r. Extends self.points r.0.points) }
     {
-        let Kept {
+        let ReaderParts {
             alloc,
             points,
             header,
@@ -400,7 +405,7 @@ impl Kept {
         } = self;
         match points.declare(decl, line) {
             Ok((points, declared)) => Ok((
-                Kept {
+                ReaderParts {
                     alloc,
                     points,
                     header,

@@ -17,7 +17,7 @@ ghost use Rattle.dk_blocks.specs.Turns.{AfterFits, ending_of, turn_of};
 
 use crate::block::Block;
 use crate::found::Found;
-use crate::kept::Kept;
+use crate::kept::ReaderParts;
 use bumpalo::Bump;
 use dk_base::{BlockFault, Fault, NoMemory, Why, trim_blanks};
 use dk_calls::Calls;
@@ -32,7 +32,7 @@ use std::alloc::Global;
 /// wait. It keeps no samples.
 #[derive(Drop)]
 pub struct Reader {
-    pub(crate) kept: Kept,
+    pub(crate) kept: ReaderParts,
     pub(crate) file: u32,
     pub(crate) is_over: bool,
 }
@@ -63,7 +63,7 @@ pub(crate) enum Step {
 
 /// What comes of the end of a block's lines: they are no block, and the next one begins; or a block or the file ends.
 #[derive(Drop)]
-pub(crate) enum After<'a> {
+pub(crate) enum Closed<'a> {
     Goes,
     Ends(End<'a>),
 }
@@ -96,11 +96,11 @@ fn line_stop(fault: LineFault) -> Stop
 
 // The line is blank.
 fn at_blank<'a>(
-    kept: &mut Kept,
+    kept: &mut ReaderParts,
     block: &mut Block<'a>,
     number: u64,
     ignores: bool,
-) -> Result<After<'a>, Stop>
+) -> Result<Closed<'a>, Stop>
     requires { Fits kept.old block.old }
     ensures shape { LineShape (turn_of kept.new block.new result) }
     ensures points { kept.new.points ≡ kept.old.points }
@@ -110,9 +110,9 @@ fn at_blank<'a>(
     match kept.close(block, number, ignores) {
         Ok(None) => {
             kept.begin_again(block);
-            Ok(After::Goes)
+            Ok(Closed::Goes)
         }
-        Ok(Some(found)) => Ok(After::Ends(End {
+        Ok(Some(found)) => Ok(Closed::Ends(End {
             is_over: false,
             found: Some(found),
         })),
@@ -122,11 +122,11 @@ fn at_blank<'a>(
 
 // The file ends in front of the line of this number.
 fn at_end<'a>(
-    kept: &mut Kept,
+    kept: &mut ReaderParts,
     block: &mut Block<'a>,
     number: u64,
     ignores: bool,
-) -> Result<After<'a>, Stop>
+) -> Result<Closed<'a>, Stop>
     requires { Fits kept.old block.old }
     ensures shape { EndShape (turn_of kept.new block.new result) }
     ensures points { kept.new.points ≡ kept.old.points }
@@ -134,7 +134,7 @@ fn at_end<'a>(
     ensures gives { (h : History) → Stands kept.old h → EndGives ignores (block_resumed ignores h block.old) number (turn_of kept.new block.new result) }
 {
     match kept.close(block, number, ignores) {
-        Ok(found) => Ok(After::Ends(End {
+        Ok(found) => Ok(Closed::Ends(End {
             is_over: true,
             found,
         })),
@@ -144,12 +144,12 @@ fn at_end<'a>(
 
 // The end of a block: at a blank line, or where the file ends in front of the line of this number.
 fn close_block<'a>(
-    kept: &mut Kept,
+    kept: &mut ReaderParts,
     block: &mut Block<'a>,
     number: u64,
     is_over: bool,
     ignores: bool,
-) -> Result<After<'a>, Stop>
+) -> Result<Closed<'a>, Stop>
     requires { Fits kept.old block.old }
     ensures shape { ShapeAt is_over (turn_of kept.new block.new result) }
     ensures points { kept.new.points ≡ kept.old.points }
@@ -164,7 +164,12 @@ fn close_block<'a>(
 }
 
 // A line that is not blank.
-fn at_words<'a>(kept: &Kept, block: &mut Block<'a>, number: u64, bytes: &[u8]) -> Result<(), Stop>
+fn at_words<'a>(
+    kept: &ReaderParts,
+    block: &mut Block<'a>,
+    number: u64,
+    bytes: &[u8],
+) -> Result<(), Stop>
     requires { Fits kept.now block.old }
     ensures fits { OnOk result (Fits kept.now block.new) }
     ensures shape { LineShape (line_turn kept.now (left_behind block.new result)) }
@@ -178,7 +183,7 @@ fn at_words<'a>(kept: &Kept, block: &mut Block<'a>, number: u64, bytes: &[u8]) -
 
 // A line of the file.
 fn with_line<'a>(
-    kept: &Kept,
+    kept: &ReaderParts,
     block: &mut Block<'a>,
     number: u64,
     bytes: &[u8],
@@ -202,7 +207,7 @@ fn with_line<'a>(
 
 // Reads one line of a block and takes it.
 fn take_line<'a, I: Inputs>(
-    kept: &Kept,
+    kept: &ReaderParts,
     block: &mut Block<'a>,
     inputs: &mut I,
     lines: &mut Lines,
@@ -231,7 +236,7 @@ fn take_line<'a, I: Inputs>(
 
 // Reads up to the end of the next block. The values of its record lie in the arena, which gives no memory before the first of them.
 fn read_block<'a, I: Inputs>(
-    kept: &mut Kept,
+    kept: &mut ReaderParts,
     arena: &'a Bump,
     inputs: &mut I,
     lines: &mut Lines,
@@ -255,8 +260,8 @@ fn read_block<'a, I: Inputs>(
             Ok(Step::Ended { number, is_over }) => match close_block(
                 kept, &mut block, number, is_over, ignores,
             ) {
-                Ok(After::Goes) => continue 'reading,
-                Ok(After::Ends(end)) => return Ok(end),
+                Ok(Closed::Goes) => continue 'reading,
+                Ok(Closed::Ends(end)) => return Ok(end),
                 Err(stop) => return Err(stop),
             },
             Err(stop) => return Err(stop),
@@ -266,7 +271,7 @@ fn read_block<'a, I: Inputs>(
 
 // Uses the record in the bytes at hand. Nothing is read.
 fn take_record<'a>(
-    kept: &mut Kept,
+    kept: &mut ReaderParts,
     arena: &'a Bump,
     lines: &mut Lines,
     whole: &Whole<'a>,
@@ -289,7 +294,7 @@ fn take_record<'a>(
 
 // The next block, where it is a record that stands whole in the bytes at hand, and is read where it lies; else nothing is read.
 fn record_at_hand<'a>(
-    kept: &mut Kept,
+    kept: &mut ReaderParts,
     arena: &'a Bump,
     lines: &mut Lines,
     ignores: bool,
@@ -310,7 +315,7 @@ fn record_at_hand<'a>(
 
 // Reads up to the end of the next block, in the bytes at hand where it is a record that stands whole there.
 fn next_block<'a, I: Inputs>(
-    kept: &mut Kept,
+    kept: &mut ReaderParts,
     arena: &'a Bump,
     inputs: &mut I,
     lines: &mut Lines,
@@ -365,7 +370,7 @@ impl Reader {
         ensures counts { IfOk result (λ reader. (file_of reader ≡ 0) × (over_of reader ≡ false)) }
     {
         Ok(Reader {
-            kept: Kept::new(alloc)?,
+            kept: ReaderParts::new(alloc)?,
             file: 0,
             is_over: false,
         })
@@ -381,7 +386,7 @@ impl Reader {
     {
         let calls = Calls::new(alloc)?;
         Ok(Reader {
-            kept: Kept::of_table(alloc, points, implicit, calls),
+            kept: ReaderParts::of_table(alloc, points, implicit, calls),
             file: 0,
             is_over: false,
         })

@@ -18,7 +18,7 @@ use running::outcome_of;
 use std::alloc::Global;
 use std::rt::Files;
 use std::{env, fs};
-use trouble::Trouble;
+use trouble::CasesFault;
 
 // How many bytes a call moves where the case doesn't say it.
 static PIECES: [usize; 3] = [1, 7, 65_536];
@@ -39,7 +39,7 @@ fn is_met<R: Print + AllocGlobal>(
     path: &str,
     case: &Case,
     piece: usize,
-) -> Result<bool, Trouble> {
+) -> Result<bool, CasesFault> {
     if piece == 0 {
         return Ok(false);
     }
@@ -60,7 +60,11 @@ fn pieces_of(program: Program) -> &'static [usize] {
 }
 
 // Runs a case in pieces of each size, up to the first in which it differs.
-fn is_met_in_all<R: Print + AllocGlobal>(rt: &R, path: &str, case: &Case) -> Result<bool, Trouble> {
+fn is_met_in_all<R: Print + AllocGlobal>(
+    rt: &R,
+    path: &str,
+    case: &Case,
+) -> Result<bool, CasesFault> {
     if let Some(piece) = case.piece {
         return is_met(rt, path, case, piece);
     }
@@ -78,7 +82,7 @@ fn run_read<R: Print + AllocGlobal>(
     path: &str,
     reader: &mut Reader,
     count: &mut Count,
-) -> Result<(), Trouble> {
+) -> Result<(), CasesFault> {
     if let Some(case) = reader.ended()? {
         count.cases = count.cases.saturating_add(1);
         if !is_met_in_all(rt, path, case)? {
@@ -95,7 +99,7 @@ fn take_line<R: Print + AllocGlobal>(
     reader: &mut Reader,
     count: &mut Count,
     line: &str,
-) -> Result<(), Trouble> {
+) -> Result<(), CasesFault> {
     match begin_of(line) {
         Begin::Fresh(name) => {
             run_read(rt, path, reader, count)?;
@@ -120,7 +124,7 @@ fn run_file<R: Files + Print + AllocGlobal>(
     rt: &R,
     path: &str,
     count: &mut Count,
-) -> Result<(), Trouble> {
+) -> Result<(), CasesFault> {
     let text = fs::read_to_string(rt, path)?;
     let mut reader = Reader::new(rt.alloc());
     for line in text.as_str().split('\n') {
@@ -139,7 +143,7 @@ fn paths_in<R: Files + AllocGlobal + Clone + Drop>(
     rt: &R,
     folder: &str,
     end: &str,
-) -> Result<Vec<String>, Trouble> {
+) -> Result<Vec<String>, CasesFault> {
     let mut paths = Vec::new(rt.alloc());
     for entry in fs::read_dir(rt, folder)? {
         let entry = entry?;
@@ -156,7 +160,7 @@ fn run_folder<R: Files + Print + AllocGlobal + Clone + Drop>(
     rt: &R,
     folder: &str,
     count: &mut Count,
-) -> Result<(), Trouble> {
+) -> Result<(), CasesFault> {
     for path in &paths_in(rt, folder, ".cases")? {
         run_file(rt, path.as_str(), count)?;
     }
@@ -166,7 +170,7 @@ fn run_folder<R: Files + Print + AllocGlobal + Clone + Drop>(
 fn run_folders<R: Files + Print + AllocGlobal + Clone + Drop>(
     rt: &R,
     folder: &str,
-) -> Result<(), Trouble> {
+) -> Result<(), CasesFault> {
     let mut count = Count {
         cases: 0,
         differ: 0,
@@ -180,7 +184,7 @@ fn run_folders<R: Files + Print + AllocGlobal + Clone + Drop>(
     Ok(())
 }
 
-fn main(rt: HostRuntime) -> Result<(), Trouble> {
+fn main(rt: HostRuntime) -> Result<(), CasesFault> {
     match env::args(&rt)?.nth(1) {
         Some(folder) => run_folders(&rt, folder.as_str()),
         None => run_folders(&rt, "."),

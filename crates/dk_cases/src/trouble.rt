@@ -6,27 +6,27 @@ use thiserror::Error;
 
 /// Why the cases cannot be run.
 #[derive(Debug, Drop, Error)]
-pub enum Trouble {
+pub enum CasesFault {
     #[error("out of memory")]
     NoMemory,
     #[error("{0}")]
     Outside(io::Error),
 }
 
-impl From<NoMemory> for Trouble {
-    fn from(_: NoMemory) -> Trouble {
-        Trouble::NoMemory
+impl From<NoMemory> for CasesFault {
+    fn from(_: NoMemory) -> CasesFault {
+        CasesFault::NoMemory
     }
 }
 
-impl From<AllocError> for Trouble {
-    fn from(_: AllocError) -> Trouble {
-        Trouble::NoMemory
+impl From<AllocError> for CasesFault {
+    fn from(_: AllocError) -> CasesFault {
+        CasesFault::NoMemory
     }
 }
 
-impl From<io::Error> for Trouble {
-    fn from(error: io::Error) -> Trouble {
-        Trouble::Outside(error)
+impl From<io::Error> for CasesFault {
+    fn from(error: io::Error) -> CasesFault {
+        CasesFault::Outside(error)
     }
 }

@@ -16,7 +16,7 @@ use Rattle.dk_blocks.specs.Standing.{IsBetweenFiles, ReaderStandsFor, points_of 
 use Rattle.dk_core.specs.Keeping.{IsSound, Keeping}
 use Rattle.dk_core.specs.Resuming.{HasTableOfState, IsStart, state_file}
 use Rattle.dk_core.specs.Standing.{Stands}
-use Rattle.dk_core.specs.declared.kept.Kept.{Kept}
+use Rattle.dk_core.specs.declared.kept.SessionParts.{SessionParts}
 use Rattle.dk_core.proofs.Asking.{asked}
 use Rattle.dk_core.proofs.Taking.{table_of}
 
@@ -24,7 +24,7 @@ pub on_ok : {A E : Type 0} (r : Result A E) (P Q : Type 0) → OnOk r P → (P �
 on_ok (Ok x) P Q p f = f p
 on_ok (Err e) P Q p f = p
 
-pub grammar_told : (k : Kept) (h : History) → Stands k h → k.grammar ≡ h.grammar
+pub grammar_told : (k : SessionParts) (h : History) → Stands k h → k.grammar ≡ h.grammar
 unfolding Stands
 grammar_told k h stands = stands.grammar
 

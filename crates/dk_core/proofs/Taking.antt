@@ -34,7 +34,7 @@ use Rattle.dk_core.specs.Keeping.{IsSound, Keeping}
 use Rattle.dk_core.specs.Standing.{Stands}
 use Rattle.dk_core.specs.Steps.{NextKept}
 use Rattle.dk_core.specs.Taking.{EnginesWere, TakenAs}
-use Rattle.dk_core.specs.declared.kept.Kept.{Kept}
+use Rattle.dk_core.specs.declared.kept.SessionParts.{SessionParts}
 
 -- the reader has the table of the history that it stands for, and that has samples for each point
 pub table_of : (r : Reader) (h : History) → ReaderStandsFor r h → points_in r ≡ h.table
@@ -46,7 +46,7 @@ unfolding ReaderKeeps
 many_of r h stands = stands.many
 
 -- where all that is kept stands for a history, the reader does
-pub reads_of : (k : Kept) (h : History) → Stands k h → ReaderStandsFor k.reader h
+pub reads_of : (k : SessionParts) (h : History) → Stands k h → ReaderStandsFor k.reader h
 unfolding Stands
 reads_of k h stands = stands.reader
 

@@ -9,16 +9,16 @@ use Rattle.dk_blocks.specs.History.{History}
 pub use Rattle.dk_blocks.specs.Standing.{left_with_answer}
 use Rattle.dk_blocks.specs.Standing.{ReaderStandsFor, file_of as file_in, over_of as over_in, points_of as points_in}
 use Rattle.dk_core.specs.Keeping.{saved_by}
-use Rattle.dk_core.specs.declared.kept.Kept.{Kept}
+use Rattle.dk_core.specs.declared.kept.SessionParts.{SessionParts}
 use Rattle.dk_core.specs.declared.session.Session.{Session}
 
 -- What a session keeps from block to block stands for a history: its reader does, and each engine stands for its point's own samples.
-pub record KeepsAll (kept : Kept) (h : History) : Type 0 where
+pub record KeepsAll (kept : SessionParts) (h : History) : Type 0 where
   pub reader : ReaderStandsFor kept.reader h
   pub engines : EnginesStandFor kept.engines (own_samples_of h.table h.samples)
   pub grammar : kept.grammar ≡ h.grammar
 
-unfoldable pub Stands : Kept → History → Type 0
+unfoldable pub Stands : SessionParts → History → Type 0
 Stands kept h = KeepsAll kept h
 
 -- ---- sessions
@@ -32,7 +32,7 @@ SessionReadsFor s h = ReaderStandsFor s.kept.reader h
 
 -- it stands for each history that all of the session stands for
 abbrev pub ReadersStandToo : Type 0
-ReadersStandToo = (kept : Kept) (h : History) → Stands kept h → ReaderStandsFor kept.reader h
+ReadersStandToo = (kept : SessionParts) (h : History) → Stands kept h → ReaderStandsFor kept.reader h
 
 -- its points
 abbrev pub points_of : {F : Type 0} → Session F → List Point

@@ -6,17 +6,17 @@ use Rattle.dk_blocks.specs.History.{Effect, History, effect_of}
 use Rattle.dk_blocks.specs.Steps.{FaultAnswers, Grown, IsInFile, Steps}
 use Rattle.dk_blocks.specs.Standing.{ReaderStandsFor, file_of as file_in, over_of as over_in}
 use Rattle.dk_core.specs.Standing.{Stands, blocks_of, file_of, ignores_of, over_of}
-use Rattle.dk_core.specs.declared.kept.Kept.{Kept}
+use Rattle.dk_core.specs.declared.kept.SessionParts.{SessionParts}
 use Rattle.dk_core.specs.declared.session.Session.{Session}
 
 -- what an answer leaves of what is kept
-abbrev pub kept_left : {F : Type 0} → Result (Session F × Bool) Fault → Result (Kept × Bool) Fault
+abbrev pub kept_left : {F : Type 0} → Result (Session F × Bool) Fault → Result (SessionParts × Bool) Fault
 kept_left (Ok a) = Ok (a.0.kept, a.1)
 kept_left (Err fault) = Err fault
 
 -- What `next` answers where its reader stands for the history h: what is kept after the next block, and whether there was one. The reader
 -- stands for the history behind it, and all that is kept does where it stood for h.
-abbrev pub NextKept : Bool → Kept → History → Reading → List ℕ → Result (Kept × Bool) Fault → Reading → Option (List ℕ) → Type 0
+abbrev pub NextKept : Bool → SessionParts → History → Reading → List ℕ → Result (SessionParts × Bool) Fault → Reading → Option (List ℕ) → Type 0
 NextKept ignores k h r xs (Ok a) r' left' =
     (h' : History) × ReaderStandsFor a.0.reader h' × (Stands k h → Stands a.0 h') × ((effect : Option Effect) × (a.1 ≡ is_some effect)
     × ((ys : List ℕ) × (left' ≡ Some ys) × Steps ignores (effect_of ignores h) (over_in k.reader) r xs
@@ -29,7 +29,7 @@ abbrev pub NextBlock : {F : Type 0} → Session F → History → Reading → Li
 NextBlock s h r xs a r' left' = NextKept (ignores_of s) s.kept h r xs (kept_left a) r' left'
 
 -- numbers of lines, bytes and files, whatever is told
-abbrev pub KeptCounts : Kept → Reading → Result (Kept × Bool) Fault → Reading → Type 0
+abbrev pub KeptCounts : SessionParts → Reading → Result (SessionParts × Bool) Fault → Reading → Type 0
 KeptCounts k r (Ok a) r' = (r'.limits ≡ r.limits) × (r'.is_started ≡ not (over_in a.0.reader)) × (file_in a.0.reader ≡ file_in k.reader)
     × (a.1 ≡ false → over_in a.0.reader ≡ true) × (a.1 ≡ true → over_in k.reader ≡ false) × (a.1 ≡ true → Grown (over_in a.0.reader) r r')
 KeptCounts k r (Err fault) r' = (r'.limits ≡ r.limits) × IsInFile (file_in k.reader) fault

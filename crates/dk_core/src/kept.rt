@@ -43,14 +43,14 @@ use std::mem::replace;
 
 /// What a session keeps from block to block: the reader of blocks, and the engine of each point's own samples.
 #[derive(Drop)]
-pub(crate) struct Kept {
+pub(crate) struct SessionParts {
     alloc: Global,
     reader: Reader,
     grammar: Grammar,
     engines: Vec<Engine>,
 }
 
-impl Model for Kept {
+impl Model for SessionParts {
     ghost use Rattle.std.specs.Coded.{codes};
     ghost use Rattle.dk_blocks.specs.contracts.reader.Reader as reading;
     ghost use Rattle.dk_core.specs.Keeping.{IsSound, Keeping};
@@ -76,20 +76,20 @@ fn feed<'a>(arena: &'a Bump, engine: &mut Engine, base: &[View<'a>]) -> Result<(
     engine.feed(sample)
 }
 
-impl Kept {
+impl SessionParts {
     ghost use Rattle.dk_core.specs.Standing.{Stands, left_with_answer};
     ghost use Rattle.dk_core.specs.Steps.{KeptCounts, NextKept};
     ghost use Rattle.dk_core.specs.Taking.{TakenAs};
 
     /// What is kept before the first block: no points.
     #[tactic(auto, unfolding(crate::specs::Standing::Stands))]
-    pub(crate) fn new(alloc: Global, grammar: Grammar) -> Result<Kept, NoMemory>
+    pub(crate) fn new(alloc: Global, grammar: Grammar) -> Result<SessionParts, NoMemory>
         ensures stands { IfOk result (λ kept. Stands kept (nothing_by grammar)) }
         ensures reads { IfOk result (λ kept. ReaderStandsFor kept.reader (nothing_by grammar)) }
         ensures grammar { IfOk result (λ kept. kept.grammar ≡ grammar) }
         ensures counts { IfOk result (λ kept. (file_in kept.reader ≡ 0) × (over_in kept.reader ≡ false)) }
     {
-        Ok(Kept {
+        Ok(SessionParts {
             alloc,
             reader: Reader::new(alloc)?,
             grammar,
@@ -98,7 +98,7 @@ impl Kept {
     }
 
     /// What a state file says. No entry waits.
-    pub(crate) fn of_state(alloc: Global, loaded: Loaded) -> Result<Kept, NoMemory>
+    pub(crate) fn of_state(alloc: Global, loaded: Loaded) -> Result<SessionParts, NoMemory>
         requires engines { AreEnginesOf loaded.points loaded.engines × All (λ e. e.grammar ≡ loaded.grammar) loaded.engines }
         requires constants { ConstantsFit loaded.points }
         ensures stands { IfOk result (λ kept. (h : History) → IsStart h → StandForHistory h.grammar h.table loaded.engines h.samples → loaded.grammar ≡ h.grammar → loaded.points ≡ h.table
@@ -113,7 +113,7 @@ impl Kept {
             implicit,
             grammar,
         } = loaded;
-        Ok(Kept {
+        Ok(SessionParts {
             alloc,
             reader: Reader::of_table(alloc, points, implicit)?,
             grammar,
@@ -182,7 +182,7 @@ impl Kept {
         ensures file { IfErr result (IsInFile (file_in self.old.reader)) }
         ensures unread { (file : ℕ) → IsErrOf result (Fault.Read file) → ⊥ }
     {
-        let none = match Kept::new(self.alloc, self.grammar) {
+        let none = match SessionParts::new(self.alloc, self.grammar) {
             Ok(none) => none,
             Err(NoMemory) => return Err(Fault::NoMemory),
         };
@@ -192,7 +192,7 @@ impl Kept {
     }
 
     // The same, where what is kept is taken apart.
-    fn with_declaration(self, line: u64, decl: PointDecl) -> Result<Kept, Fault>
+    fn with_declaration(self, line: u64, decl: PointDecl) -> Result<SessionParts, Fault>
         requires { HasFittingConstants decl }
         ensures gives { (h now : History) → ReaderStandsFor self.reader now → TakenAs self h result (with_declaration now line decl) }
         ensures grammar { IfOk result (λ kept. kept.grammar ≡ self.grammar) }
@@ -200,7 +200,7 @@ impl Kept {
         ensures file { IfErr result (IsInFile (file_in self.reader)) }
         ensures unread { (file : ℕ) → IsErrOf result (Fault.Read file) → ⊥ }
     {
-        let Kept {
+        let SessionParts {
             alloc,
             reader,
             grammar,
@@ -208,7 +208,7 @@ impl Kept {
         } = self;
         let (reader, _) = reader.declare(line, decl)?;
         match with_new(alloc, engines, reader.points(), grammar) {
-            Ok(engines) => Ok(Kept {
+            Ok(engines) => Ok(SessionParts {
                 alloc,
                 reader,
                 grammar,

@@ -15,7 +15,7 @@ ghost use Rattle.dk_core.specs.Selecting.{SelectsBy};
 ghost use Rattle.dk_core.specs.Standing.{ReportsAlike, SessionReadsFor, SessionStandsFor, blocks_of, file_of, grammar_of, left_with_answer, options_of, over_of, points_of, saved_of, select_of};
 ghost use Rattle.dk_core.specs.Steps.{NextBlock, SessionCounts};
 
-use crate::kept::Kept;
+use crate::kept::SessionParts;
 use dk_base::{Fault, NoMemory, PointId, Text};
 use dk_engine::Engine;
 use dk_io::Inputs;
@@ -31,7 +31,7 @@ use std::alloc::Global;
 #[derive(Drop)]
 pub struct Session<F> {
     pub(crate) alloc: Global,
-    pub(crate) kept: Kept,
+    pub(crate) kept: SessionParts,
     pub(crate) select: F,
     pub(crate) options: Options,
     pub(crate) blocks: u64,
@@ -60,7 +60,7 @@ impl<F: Fn(&[u8]) -> bool + Drop> Session<F> {
         ensures select { IfOk result (λ s. select_of s ≡ select) }
         ensures counts { IfOk result (λ s. (blocks_of s ≡ 0) × (file_of s ≡ 0) × (over_of s ≡ false)) }
     {
-        let kept = Kept::new(alloc, Grammar::Two)?;
+        let kept = SessionParts::new(alloc, Grammar::Two)?;
         Ok(Session {
             alloc,
             kept,
@@ -86,7 +86,7 @@ impl<F: Fn(&[u8]) -> bool + Drop> Session<F> {
         ensures select { IfOk result (λ s. select_of s ≡ select) }
         ensures counts { IfOk result (λ s. (blocks_of s ≡ 0) × (file_of s ≡ 0) × (over_of s ≡ false)) }
     {
-        let kept = Kept::of_state(alloc, loaded)?;
+        let kept = SessionParts::of_state(alloc, loaded)?;
         Ok(Session {
             alloc,
             kept,

@@ -22,7 +22,7 @@ use Rattle.dk_engine.specs.Narrow.{AreChangesBelow, AreFoundBelow, IsChange, IsG
 use Rattle.dk_engine.specs.Parts.{no_slot, slot_in}
 use Rattle.dk_engine.specs.Step.{Answer, can_close, is_empty_state}
 use Rattle.dk_engine.specs.declared.changes.Change.{Change}
-use Rattle.dk_engine.specs.declared.changes.Found.{Found}
+use Rattle.dk_engine.specs.declared.changes.SlotChanges.{SlotChanges}
 use Rattle.dk_engine.specs.declared.growing.Growth.{Growth}
 use Rattle.dk_engine.specs.declared.slot.Slot.{Slot}
 
@@ -72,7 +72,7 @@ module _ (slots : List Slot) where
         let rest = filter test (map (change_by slots) growths) in
         ap (λ b. cond b (change_by slots g ∷ rest) rest) (fails g (All-head (IsGrowth slots) g growths are)) ∙ none_left growths (All-tail (IsGrowth slots) g growths are)
 
-  module _ (found : Found) (are : All (IsGrowth slots) found.growths) where
+  module _ (found : SlotChanges) (are : All (IsGrowth slots) found.growths) where
     found_passes : (test : Change → Bool) → ((g : Growth) → IsGrowth slots g → test (change_by slots g) ≡ false) → list_any test (found_changes slots found) ≡ list_any test found.changes
     found_passes test fails =
         list_any-append test (map (change_by slots) found.growths) found.changes ∙ ap (λ b. b || list_any test found.changes) (none_passes test fails found.growths are)
@@ -121,7 +121,7 @@ module _ (slots : List Slot) where
       let one : with_growth cur g ≡ with_change cur (change_by slots g) = ap (λ s. slice_set cur g.place (with_state (slot_in cur g.place) s)) (alike g.place g.x g.y g.z) in
       grown_as_changed growths (with_growth cur g) (alike_grown cur alike g) ∙ ap (λ ss. fold with_change ss (map (change_by slots) growths)) one
 
-  pub found_folded : (found : Found) → fold with_change (fold with_growth slots found.growths) found.changes ≡ fold with_change slots (found_changes slots found)
+  pub found_folded : (found : SlotChanges) → fold with_change (fold with_growth slots found.growths) found.changes ≡ fold with_change slots (found_changes slots found)
   found_folded found =
       ap (λ ss. fold with_change ss found.changes) (grown_as_changed found.growths slots (λ p x y z. refl))
       ∙ sym (fold-append with_change slots (map (change_by slots) found.growths) found.changes)
@@ -138,7 +138,7 @@ pub of_some : (A : Type 0) (P : A → Type 0) (o : Option A) (x : A) → o ≡ S
 of_some A P o x is h = subst (λ (p : Option A). IfSome p P) is h
 
 -- the changes that are found beside growths are of slots
-pub found_within : {made : Slot → State} {slots : List Slot} {found : Found} → AreFoundBelow (length slots) made slots found → All (λ (c : Change). c.place < length slots) found.changes
+pub found_within : {made : Slot → State} {slots : List Slot} {found : SlotChanges} → AreFoundBelow (length slots) made slots found → All (λ (c : Change). c.place < length slots) found.changes
 found_within {made} {slots} {found} are =
     All-weaker (IsChange made slots) (λ (c : Change). c.place < length slots) (λ c is. is.within) found.changes
     (all_behind (IsChange made slots) (map (change_by slots) found.growths) found.changes are.changes.each)
@@ -166,20 +166,20 @@ module _ (made : Slot → State) (slots : List Slot) where
     ];
   }
 
-  pub nothing_found : (found : Found) → found.growths ≡ [] → found.changes ≡ [] → AreFoundBelow 0 made slots found
+  pub nothing_found : (found : SlotChanges) → found.growths ≡ [] → found.changes ≡ [] → AreFoundBelow 0 made slots found
   nothing_found found e h = record {
     growths = subst (All (IsGrowth slots)) (sym e) (All-nil (IsGrowth slots));
     changes = subst (AreChangesBelow 0 made slots) (sym (ap (λ gs. map (change_by slots) gs ++ found.changes) e ∙ h)) (no_changes made slots);
   }
 
-  module _ (n : ℕ) (found : Found) (are : AreFoundBelow n made slots found) where
+  module _ (n : ℕ) (found : SlotChanges) (are : AreFoundBelow n made slots found) where
     pub found_stay : (m : ℕ) → StayBetween n m made slots → AreFoundBelow m made slots found
     found_stay m stay = record { growths = are.growths; changes = stay_more made slots n (found_changes slots found) are.changes m stay }
 
     pub found_stays : StateStays made (slot_in slots n) → AreFoundBelow (n + 1) made slots found
     found_stays stays = record { growths = are.growths; changes = stays_more made slots n (found_changes slots found) are.changes stays }
 
-    module _ (more : Found) where
+    module _ (more : SlotChanges) where
       pub found_change : more.growths ≡ found.growths → (change : Change) → more.changes ≡ found.changes ++ change ∷ [] → change.place ≡ n → IsChange made slots change → AreFoundBelow (n + 1) made slots more
       found_change e change h at is =
           let grown = map (change_by slots) found.growths in
@@ -205,7 +205,7 @@ module _ (made : Slot → State) (slots : List Slot) where
 
 -- ---- what a sample makes of a slot that can't close where it is asked
 module _ (asked : Bool) (after : Answer) (sample : List Value) (slots : List Slot) (place : ℕ) (within : place < length slots) (shut : (asked && can_close (slot_in slots place)) ≡ false)
-    (found : Found) (are : AreFoundBelow place (outcome asked after sample) slots found) where
+    (found : SlotChanges) (are : AreFoundBelow place (outcome asked after sample) slots found) where
   abbrev slot : Slot
   slot = slot_in slots place
 
@@ -219,7 +219,7 @@ module _ (asked : Bool) (after : Answer) (sample : List Value) (slots : List Slo
   pub found_still : new_state ≡ slot.state → slot.state ≢ Broken → AreFoundBelow (place + 1) (outcome asked after sample) slots found
   found_still still whole = found_stays (outcome asked after sample) slots place found are (made ∙ still, whole)
 
-  pub found_grown : (growth : Growth) → IsGrown slot new_state place growth → (more : Found) → more.growths ≡ found.growths ++ growth ∷ [] → more.changes ≡ found.changes
+  pub found_grown : (growth : Growth) → IsGrown slot new_state place growth → (more : SlotChanges) → more.growths ≡ found.growths ++ growth ∷ [] → more.changes ≡ found.changes
       → AreFoundBelow (place + 1) (outcome asked after sample) slots more
   found_grown growth is more e h =
       let there : slot_in slots growth.place ≡ slot = ap (slot_in slots) is.at in
@@ -233,7 +233,7 @@ module _ (asked : Bool) (after : Answer) (sample : List Value) (slots : List Slo
       } in
       found_growth (outcome asked after sample) slots place found are more growth e h is.at grows change
 
-  pub found_joined : (more : Found) → more.growths ≡ found.growths → more.changes ≡ found.changes ++ record { place = place; state = new_state } ∷ []
+  pub found_joined : (more : SlotChanges) → more.growths ≡ found.growths → more.changes ≡ found.changes ++ record { place = place; state = new_state } ∷ []
       → AreFoundBelow (place + 1) (outcome asked after sample) slots more
   found_joined more e h =
       let change : Change = record { place = place; state = new_state } in

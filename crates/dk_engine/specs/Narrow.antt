@@ -22,7 +22,7 @@ use Rattle.dk_engine.specs.Merged.{AreTogether}
 use Rattle.dk_engine.specs.Parts.{slot_in}
 use Rattle.dk_engine.specs.Step.{Answer, IsLeftOf, IsOpened, can_close, is_empty_state, is_of_elements}
 use Rattle.dk_engine.specs.declared.changes.Change.{Change}
-use Rattle.dk_engine.specs.declared.changes.Found.{Found}
+use Rattle.dk_engine.specs.declared.changes.SlotChanges.{SlotChanges}
 use Rattle.dk_engine.specs.declared.growing.Growth.{Growth}
 use Rattle.dk_engine.specs.declared.growing.Seen.{Seen}
 use Rattle.dk_engine.specs.declared.growing.Seen.TheVariants.{Grows, Neither, Stays}
@@ -121,16 +121,16 @@ pub record IsGrowth (slots : List Slot) (growth : Growth) : Type 0 where
   pub unbroken : (slot_in slots growth.place).state ≢ Broken
 
 -- the growths that are found as changes, and the changes
-abbrev pub found_changes : List Slot → Found → List Change
+abbrev pub found_changes : List Slot → SlotChanges → List Change
 found_changes slots found = map (change_by slots) found.growths ++ found.changes
 
 -- the growths and the changes of the slots below a place
-pub record AreFoundBelow (n : ℕ) (made : Slot → State) (slots : List Slot) (found : Found) : Type 0 where
+pub record AreFoundBelow (n : ℕ) (made : Slot → State) (slots : List Slot) (found : SlotChanges) : Type 0 where
   pub growths : All (IsGrowth slots) found.growths
   pub changes : AreChangesBelow n made slots (found_changes slots found)
 
 -- all growths and changes
-abbrev pub AreFound : (Slot → State) → List Slot → Found → Type 0
+abbrev pub AreFound : (Slot → State) → List Slot → SlotChanges → Type 0
 AreFound made slots found = AreFoundBelow (length slots) made slots found
 
 -- ---- what a change can bring

@@ -32,7 +32,7 @@ pub struct Change {
 
 /// What a sample makes of the slots that it doesn't leave as they are: stretches of a line that grow, and the changes of the others.
 #[derive(Drop)]
-pub struct Found {
+pub struct SlotChanges {
     pub growths: List<Growth>,
     pub changes: List<Change>,
 }
@@ -104,7 +104,7 @@ fn add_change(
     asked: bool,
     slots: &[Slot],
     place: usize,
-    found: &mut Found,
+    found: &mut SlotChanges,
 ) -> Result<(), NoMemory>
     requires placed { All (λ slot. IsPlaced after.now.whole.grammar after.now.whole.infos after.now.whole.kept.leaders slot.row slot.leaders) slots.now }
     requires proper { All (λ slot. IsProper (form_of slot.row) slot.state) slots.now }
@@ -167,7 +167,7 @@ fn push_found(
     sample: &[View<'_>],
     slots: &[Slot],
     place: usize,
-    found: &mut Found,
+    found: &mut SlotChanges,
 ) -> Result<(), NoMemory>
     requires placed { All (λ slot. IsPlaced after.now.whole.grammar after.now.whole.infos after.now.whole.kept.leaders slot.row slot.leaders) slots.now }
     requires sample { values_of sample.now ≡ after.now.sample }
@@ -194,7 +194,7 @@ fn add_seen(
     slots: &[Slot],
     from: usize,
     to: usize,
-    found: &mut Found,
+    found: &mut SlotChanges,
 ) -> Result<(), NoMemory>
     requires placed { All (λ slot. IsPlaced after.now.whole.grammar after.now.whole.infos after.now.whole.kept.leaders slot.row slot.leaders) slots.now }
     requires skips { PassesStill after.now.sample slots.now skips.now }
@@ -228,7 +228,7 @@ fn add_changes(
     slots: &[Slot],
     from: usize,
     to: usize,
-    found: &mut Found,
+    found: &mut SlotChanges,
 ) -> Result<(), NoMemory>
     requires placed { All (λ slot. IsPlaced after.now.whole.grammar after.now.whole.infos after.now.whole.kept.leaders slot.row slot.leaders) slots.now }
     requires skips { PassesStill after.now.sample slots.now skips.now }
@@ -260,7 +260,7 @@ fn add_next(
     skips: &[usize],
     slots: &[Slot],
     place: usize,
-    found: &mut Found,
+    found: &mut SlotChanges,
 ) -> Result<usize, NoMemory>
     requires placed { All (λ slot. IsPlaced after.now.whole.grammar after.now.whole.infos after.now.whole.kept.leaders slot.row slot.leaders) slots.now }
     requires skips { PassesStill after.now.sample slots.now skips.now }
@@ -294,7 +294,7 @@ pub(crate) fn changes(
     asked: bool,
     skips: &[usize],
     slots: &[Slot],
-) -> Result<Found, NoMemory>
+) -> Result<SlotChanges, NoMemory>
     requires placed { All (λ slot. IsPlaced after.now.whole.grammar after.now.whole.infos after.now.whole.kept.leaders slot.row slot.leaders) slots.now }
     requires skips { PassesStill after.now.sample slots.now skips.now }
     requires proper { All (λ slot. IsProper (form_of slot.row) slot.state) slots.now }
@@ -302,7 +302,7 @@ pub(crate) fn changes(
     requires unbroken { All (λ slot. slot.state ≢ Broken) slots.now }
     ensures { IfOk result (AreFound (outcome asked (read_after after.now.whole.kept after.now.sample) after.now.sample) slots.now) }
 {
-    let mut found = Found::none(alloc);
+    let mut found = SlotChanges::none(alloc);
     let mut place = 0;
     while place < slots.len() {
         place = add_next(after, asked, skips, slots, place, &mut found)?;
@@ -314,13 +314,13 @@ pub(crate) fn changes(
 // again.
 const FEW: usize = 64;
 
-impl Found {
+impl SlotChanges {
     // Nothing. It takes no memory.
-    fn none(alloc: Global) -> Found
+    fn none(alloc: Global) -> SlotChanges
         ensures growths { result.growths ≡ [] }
         ensures changes { result.changes ≡ [] }
     {
-        Found {
+        SlotChanges {
             growths: List::new(alloc),
             changes: List::new(alloc),
         }
@@ -339,7 +339,7 @@ pub(crate) fn few_changes(
     asked: bool,
     skips: &[usize],
     slots: &[Slot],
-) -> Result<Option<Found>, NoMemory>
+) -> Result<Option<SlotChanges>, NoMemory>
     requires placed { All (λ slot. IsPlaced after.now.whole.grammar after.now.whole.infos after.now.whole.kept.leaders slot.row slot.leaders) slots.now }
     requires skips { PassesStill after.now.sample slots.now skips.now }
     requires proper { All (λ slot. IsProper (form_of slot.row) slot.state) slots.now }
@@ -347,7 +347,7 @@ pub(crate) fn few_changes(
     requires unbroken { All (λ slot. slot.state ≢ Broken) slots.now }
     ensures { IfOk result (λ few. IfSome few (AreFound (outcome asked (read_after after.now.whole.kept after.now.sample) after.now.sample) slots.now)) }
 {
-    let mut found = Found::none(alloc);
+    let mut found = SlotChanges::none(alloc);
     let mut place = 0;
     while place < slots.len() {
         if found.are_many() {

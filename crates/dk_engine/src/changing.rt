@@ -7,7 +7,7 @@ ghost use Rattle.dk_engine.specs.Narrow.{AreFound, slots_left};
 ghost use Rattle.dk_engine.specs.declared.slot.Slot.{Slot as KeptSlot};
 
 use crate::Slots;
-use crate::changes::{Change, Found};
+use crate::changes::{Change, SlotChanges};
 use dk_template::State;
 
 // Whether the slot's state is Broken.
@@ -30,7 +30,7 @@ fn break_some(changes: &[Change]) -> bool
 }
 
 /// Makes all growths and changes of the slots, and drops those that are Broken then.
-pub(crate) fn apply_changes(slots: &mut Slots, found: Found)
+pub(crate) fn apply_changes(slots: &mut Slots, found: SlotChanges)
     ensures { (made : KeptSlot → SlotState) → AreFound made slots.old found → slots.new ≡ slots_left made slots.old }
 {
     let breaks = break_some(found.changes.as_slice());

@@ -15,7 +15,9 @@ ghost use Rattle.dk_engine.specs.Idle.{PassesStill};
 ghost use Rattle.dk_engine.specs.Narrow.{AreFound, IsMergedStep, IsShut, loses_by, lost_places, opened_slots, outcome, slots_left};
 
 use crate::after::After;
-use crate::changes::{Change, Found, changes, few_changes, lose_some, lost_places, some_may_begin};
+use crate::changes::{
+    Change, SlotChanges, changes, few_changes, lose_some, lost_places, some_may_begin,
+};
 use crate::changing::apply_changes;
 use crate::counting::are_many;
 use crate::merging::merge_slots;
@@ -51,7 +53,7 @@ fn held_after(
 #[derive(Drop)]
 pub(crate) struct Changes {
     asked: bool,
-    all: Found,
+    all: SlotChanges,
 }
 
 impl Engine {
@@ -162,7 +164,7 @@ impl Engine {
     }
 
     // What the sample makes of the slots, where it is asked of all that can close whether they do.
-    fn all_changes(&self, sample: &[View<'_>]) -> Result<Found, NoMemory>
+    fn all_changes(&self, sample: &[View<'_>]) -> Result<SlotChanges, NoMemory>
         requires { IsSample self.now.infos (values_of sample.now) }
         ensures { IfOk result (AreFound (outcome true (read_after self.now.kept (values_of sample.now)) (values_of sample.now)) self.now.kept.slots) }
     {
@@ -215,7 +217,7 @@ impl Engine {
         &mut self,
         sample: &[View<'_>],
         now: Now,
-        found: Found,
+        found: SlotChanges,
         lost: &[usize],
         opened: Slots,
     ) -> Result<(), NoMemory>

@@ -8,7 +8,7 @@ ghost use Rattle.dk_engine.specs.Narrow.{with_change, with_growth};
 ghost use Rattle.dk_engine.specs.declared.slot.Slot.{Slot as KeptSlot};
 
 use crate::Slot;
-use crate::changes::{Change, Found};
+use crate::changes::{Change, SlotChanges};
 use crate::changing::is_broken;
 use crate::growing::{Growth, grow};
 use crate::idle::{Notes, is_passed, meets, notes_of};
@@ -100,7 +100,7 @@ fn some_passed(skips: &[usize], changes: &[Change]) -> bool
 }
 
 // Whether a place that is passed over grows or is changed.
-fn some_found_passed(skips: &[usize], found: &Found) -> bool
+fn some_found_passed(skips: &[usize], found: &SlotChanges) -> bool
     ensures growths { result ≡ false → list_any (λ g. is_passed skips.now g.place) found.now.growths ≡ false }
     ensures changes { result ≡ false → list_any (λ c. is_passed skips.now c.place) found.now.changes ≡ false }
 {
@@ -109,7 +109,7 @@ fn some_found_passed(skips: &[usize], found: &Found) -> bool
 }
 
 // Lets the notes hold of the slots with all growths and changes: forgets them, where a slot that is passed over is among these.
-fn keep_notes(alloc: Global, notes: &mut Notes, found: &Found)
+fn keep_notes(alloc: Global, notes: &mut Notes, found: &SlotChanges)
     ensures { (slots : List KeptSlot) → AreSkips notes.old.watch slots notes.old.skips.items → AreSkips notes.new.watch (fold with_change (fold with_growth slots found.now.growths) found.now.changes) notes.new.skips.items }
 {
     if some_found_passed(notes.skips.as_slice(), found) {
@@ -118,7 +118,7 @@ fn keep_notes(alloc: Global, notes: &mut Notes, found: &Found)
 }
 
 // Which bounds move with all changes, as far as memory can be had.
-fn note_moves(moves: &mut Moves, slots: &[Slot], found: &Found) {
+fn note_moves(moves: &mut Moves, slots: &[Slot], found: &SlotChanges) {
     if moves.note_changes(slots, found.changes.as_slice()).is_err() {
         moves.forget();
     }
@@ -189,12 +189,12 @@ impl Slots {
     }
 
     // Makes all growths, and then all changes.
-    pub(crate) fn change(&mut self, found: Found)
+    pub(crate) fn change(&mut self, found: SlotChanges)
         ensures { self.new ≡ fold with_change (fold with_growth self.old found.growths) found.changes }
     {
         note_moves(&mut self.moves, self.all.as_slice(), &found);
         keep_notes(*self.all.allocator(), &mut self.notes, &found);
-        let Found { growths, changes } = found;
+        let SlotChanges { growths, changes } = found;
         let slots = self.all.as_mut_slice();
         grow_slots(slots, growths.as_slice());
         change_slots(slots, changes.into_vec());

@@ -13,10 +13,10 @@ use Rattle.dk_expr.specs.Following.{past}
 use Rattle.dk_expr.specs.Naming.{Listed, var_at}
 use Rattle.dk_expr.specs.Readable.{are_ended, ends_name, is_ended}
 use Rattle.dk_expr.specs.Searches.{FindsConstant, FindsName, FindsNumber, FindsPart, FindsStep, FindsTerm, FindsTimes}
-use Rattle.dk_expr.specs.declared.found.Found.{Found}
+use Rattle.dk_expr.specs.declared.found.Parsed.{Parsed}
 use Rattle.dk_expr.proofs.Ends.{name_ended, number_ended}
 
-module _ {T E : Type 0} (listed : Listed) (text : List ℕ) (ps : List Part) (f : Found) (new : List Found) (r : Result T E) where
+module _ {T E : Type 0} (listed : Listed) (text : List ℕ) (ps : List Part) (f : Parsed) (new : List Parsed) (r : Result T E) where
   abbrev Finds : Part → Type 0
   Finds p = FindsPart listed text p ps f new
 
@@ -25,25 +25,25 @@ module _ {T E : Type 0} (listed : Listed) (text : List ℕ) (ps : List Part) (f 
   shown_arm part own is some = subst (λ p. OnOk r (Finds (part_shown p))) (sym is) some
 
   -- what a call finds that gives at most one
-  abbrev pub FindsSome : Option Found → Type 0
-  FindsSome found = OnOk r ((x : Found) → found ≡ Some x → Contains new x)
+  abbrev pub FindsSome : Option Parsed → Type 0
+  FindsSome found = OnOk r ((x : Parsed) → found ≡ Some x → Contains new x)
 
   here : (n : ℕ) (p : Part) → are_ended n (p ∷ ps) ≡ true → is_ended n p ps ≡ true
   here n p h = (and_parts (is_ended n p ps) (are_ended n ps) h).0
 
-  pub word_arm : (bytes : List ℕ) (found : Option Found) → ((more : List ℕ) → drop f.at text ≡ bytes ++ more → found ≡ Some (past (length bytes) f)) → FindsSome found → OnOk r (Finds (word bytes))
+  pub word_arm : (bytes : List ℕ) (found : Option Parsed) → ((more : List ℕ) → drop f.at text ≡ bytes ++ more → found ≡ Some (past (length bytes) f)) → FindsSome found → OnOk r (Finds (word bytes))
   word_arm bytes found one some = on_ok_weaker r (λ finds called vars s sought ended is. finds _ (one (text_by ps called s) is)) some
 
-  pub bound_arm : (found : Option Found) → FindsNumber text f (λ z. record f { bound = z }) found → FindsSome found → OnOk r (Finds bound)
+  pub bound_arm : (found : Option Parsed) → FindsNumber text f (λ z. record f { bound = z }) found → FindsSome found → OnOk r (Finds bound)
   bound_arm found one some = on_ok_weaker r (λ finds called vars s sought ended is. finds _ (one (bound_in s) (text_by ps called s) sought.small.bound (number_ended called s ps (here (length vars) bound ended)) is)) some
 
-  pub remainder_arm : (found : Option Found) → FindsNumber text f (λ z. record f { remainder = z }) found → FindsSome found → OnOk r (Finds remainder)
+  pub remainder_arm : (found : Option Parsed) → FindsNumber text f (λ z. record f { remainder = z }) found → FindsSome found → OnOk r (Finds remainder)
   remainder_arm found one some = on_ok_weaker r (λ finds called vars s sought ended is. finds _ (one (pos (remainder_in s)) (text_by ps called s) sought.small.remainder (number_ended called s ps (here (length vars) remainder ended)) is)) some
 
-  pub modulus_arm : (found : Option Found) → FindsNumber text f (λ z. record f { modulus = z }) found → FindsSome found → OnOk r (Finds modulus)
+  pub modulus_arm : (found : Option Parsed) → FindsNumber text f (λ z. record f { modulus = z }) found → FindsSome found → OnOk r (Finds modulus)
   modulus_arm found one some = on_ok_weaker r (λ finds called vars s sought ended is. finds _ (one (pos (modulus_in s)) (text_by ps called s) sought.small.modulus (number_ended called s ps (here (length vars) modulus ended)) is)) some
 
-  pub step_arm : (found : Option Found) → FindsStep text f (λ k. record f { offset = k }) found → FindsSome found → OnOk r (Finds step)
+  pub step_arm : (found : Option Parsed) → FindsStep text f (λ k. record f { offset = k }) found → FindsSome found → OnOk r (Finds step)
   step_arm found one some = on_ok_weaker r (λ finds called vars s sought ended is. finds _ (one (offset_in s) (text_by ps called s) sought.small.offset (number_ended called s ps (here (length vars) step ended)) is)) some
 
   pub constant_arm : OnOk r (FindsConstant text f (λ k. record f { constant = k }) new) → OnOk r (Finds constant)
@@ -54,14 +54,14 @@ module _ {T E : Type 0} (listed : Listed) (text : List ℕ) (ps : List Part) (f 
   all_left [] names s own h is = is ∙ append-nil own
   all_left (q ∷ qs) names s own h is = absurd (false≢true h)
 
-  pub values_arm : (found : Found) → found ≡ past (length (drop f.at text)) (record f { values = f.at }) → FindsSome (Some found) → OnOk r (Finds values)
+  pub values_arm : (found : Parsed) → found ≡ past (length (drop f.at text)) (record f { values = f.at }) → FindsSome (Some found) → OnOk r (Finds values)
   values_arm found one some =
       on_ok_weaker r
       (λ finds called vars s sought ended is.
       finds _ (ap (λ g. Some g) (one ∙ ap (λ l. past (length l) (record f { values = f.at })) (all_left ps called s (known_text s) (here (length vars) values ended) is))))
       some
 
-  pub code_arm : (bytes : List ℕ) (found : Found) → found ≡ past (length (drop f.at text)) (record f { code = f.at }) → FindsSome (Some found) → OnOk r (Finds (null_or bytes))
+  pub code_arm : (bytes : List ℕ) (found : Parsed) → found ≡ past (length (drop f.at text)) (record f { code = f.at }) → FindsSome (Some found) → OnOk r (Finds (null_or bytes))
   code_arm bytes found one some =
       on_ok_weaker r
       (λ finds called vars s sought ended is.

@@ -34,7 +34,7 @@ use Rattle.dk_expr.specs.Reads.{HasNone, HasText, IsRead, told_state}
 use Rattle.dk_expr.specs.Searches.{FindsParts}
 use Rattle.dk_expr.specs.Telling.{Tells, printed_state}
 use Rattle.dk_expr.specs.declared.assertions.Assertion.{Assertion}
-use Rattle.dk_expr.specs.declared.found.Found.{Found}
+use Rattle.dk_expr.specs.declared.found.Parsed.{Parsed}
 use Rattle.dk_expr.proofs.Small.{small_of}
 use Rattle.dk_expr.proofs.Told.{ended, found, printed}
 
@@ -80,7 +80,7 @@ module _ (infos : List VarInfo) (text : List ℕ) (r : RowId) where
   some_same : {X : Type 0} (x y : X) → Some x ≡ Some y → x ≡ y
   some_same x y e = cc
 
-  pub candidate_some : {E : Type 0} (f : Found) (s : State) (own : List VarId) (result : Result (Option Assertion) E) → own ≡ first_vars (arity_of r) f
+  pub candidate_some : {E : Type 0} (f : Parsed) (s : State) (own : List VarId) (result : Result (Option Assertion) E) → own ≡ first_vars (arity_of r) f
       → ((t : State) → IsProper (form_of r) t → IsTrue (fits t) → IsTrue (is_held t) → Tells text f t → Some s ≡ Some (printed_state t))
       → IfOk result (λ read. HasText infos text r own s → read ≡ Some (record { row = r; vars = own; state = s }))
       → IfOk result (λ read. (vars : List VarId) (t : State) → HasText infos text r vars t → IsFoundBy text r vars t f → IsSomeAnd read (λ a. a.vars ≡ vars))
@@ -141,21 +141,21 @@ module _ (infos : List VarInfo) (text : List ℕ) (r : RowId) (vars : List VarId
       }
 
   -- it is found behind all parts
-  pub found_among : (ends : List Found) → FindsParts listed text (parts_of_row r) start ends → Contains ends (all_followed (var_names infos vars) vars s (parts_of_row r) start)
+  pub found_among : (ends : List Parsed) → FindsParts listed text (parts_of_row r) start ends → Contains ends (all_followed (var_names infos vars) vars s (parts_of_row r) start)
   found_among ends finds = finds (var_names infos vars) vars s is_sought (ended infos text r vars s has) (printed infos text r vars s has)
 
   pub found_by : IsFoundBy text r vars s (all_followed (var_names infos vars) vars s (parts_of_row r) start)
   found_by = found infos text r vars s has
 
 -- what is found first
-pub start_there : (none before : List Found) (first : Found) → none ≡ [] → first ≡ start → before ≡ none ++ first ∷ [] → Contains before start
+pub start_there : (none before : List Parsed) (first : Parsed) → none ≡ [] → first ≡ start → before ≡ none ++ first ∷ [] → Contains before start
 start_there none before first e f g =
     subst (λ l. Contains l start) (sym (g ∙ ap (λ l. l ++ first ∷ []) e)) (subst (λ x. Contains ([] ++ first ∷ []) x) f (Contains-push [] first))
 
 -- so the least of what is found is the first of all that have the text
 pub least_found : {E : Type 0} (infos : List VarInfo) (text : List ℕ) (r : RowId) (listed : Listed) → AreUnderNames infos listed
-    → (ends : List Found) → FindsParts listed text (parts_of_row r) start ends → (result : Result (Option Assertion) E)
-    → IfOk result (λ read. (vars : List VarId) (s : State) (f : Found) → HasText infos text r vars s → Contains ends f → IsFoundBy text r vars s f → IsNoLater read vars)
+    → (ends : List Parsed) → FindsParts listed text (parts_of_row r) start ends → (result : Result (Option Assertion) E)
+    → IfOk result (λ read. (vars : List VarId) (s : State) (f : Parsed) → HasText infos text r vars s → Contains ends f → IsFoundBy text r vars s f → IsNoLater read vars)
     → IfOk result (λ read. (vars : List VarId) (s : State) → HasText infos text r vars s → IsNoLater read vars)
 least_found infos text r listed under ends finds result =
     IfOk-weaker result _ _
@@ -204,18 +204,18 @@ module _ (infos : List VarInfo) (text : List ℕ) where
 -- ---- the least of what was found
 module _ (infos : List VarInfo) (text : List ℕ) (r : RowId) where
   -- no instance that was found comes before this one
-  abbrev pub IsBelow : Option Assertion → Found → Type 0
+  abbrev pub IsBelow : Option Assertion → Parsed → Type 0
   IsBelow least f = (vars : List VarId) (s : State) → HasText infos text r vars s → IsFoundBy text r vars s f → IsNoLater least vars
 
-  pub record IsLeastUpTo (ends : List Found) (least : Option Assertion) (n : ℕ) : Type 0 where
+  pub record IsLeastUpTo (ends : List Parsed) (least : Option Assertion) (n : ℕ) : Type 0 where
     pub has : IfSome least (λ a. (a.row ≡ r) × HasText infos text r a.vars a.state)
     pub below : AllWithin (IsBelow least) ends 0 n
 
-  pub none_least : (ends : List Found) → IsLeastUpTo ends None 0
+  pub none_least : (ends : List Parsed) → IsLeastUpTo ends None 0
   none_least ends = record { has = tt; below = AllWithin-none (IsBelow None) ends 0 }
 
   -- one of them more
-  pub more_least : (ends : List Found) (old next new : Option Assertion) (i : ℕ) (f : Found) → i < length ends → f ≡ get_or ends i f
+  pub more_least : (ends : List Parsed) (old next new : Option Assertion) (i : ℕ) (f : Parsed) → i < length ends → f ≡ get_or ends i f
       → IfSome next (λ a. (a.row ≡ r) × HasText infos text r a.vars a.state)
       → ((vars : List VarId) (s : State) → HasText infos text r vars s → IsFoundBy text r vars s f → IsSomeAnd next (λ a. a.vars ≡ vars))
       → (new ≡ old) ⊎ (new ≡ next) → ((vars : List VarId) → IsNoLater old vars → IsNoLater new vars) → IfSome next (λ a. IsNoLater new a.vars)
@@ -238,6 +238,6 @@ module _ (infos : List VarInfo) (text : List ℕ) (r : RowId) where
       here (Some a) vars h k = subst (IsNoLater new) k h
 
   -- all of them
-  pub least_of_all : (ends : List Found) (least : Option Assertion) → IsLeastUpTo ends least (length ends)
-      → (vars : List VarId) (s : State) (f : Found) → HasText infos text r vars s → Contains ends f → IsFoundBy text r vars s f → IsNoLater least vars
+  pub least_of_all : (ends : List Parsed) (least : Option Assertion) → IsLeastUpTo ends least (length ends)
+      → (vars : List VarId) (s : State) (f : Parsed) → HasText infos text r vars s → Contains ends f → IsFoundBy text r vars s f → IsNoLater least vars
   least_of_all ends least all vars s f h there by = All-contains (IsBelow least) ends f (All-from_all_within (IsBelow least) ends all.below) there vars s h by

@@ -9,11 +9,11 @@ use Rattle.dk_forms.specs.declared.states.State.{State}
 use Rattle.dk_print.specs.Parts.{Part, word, named, bound, values, null_or, remainder, modulus, lead, term, constant, step, part_text, text_by}
 use Rattle.dk_expr.specs.Following.{all_followed, followed, marked}
 use Rattle.dk_expr.specs.Readable.{are_ended, is_ended}
-use Rattle.dk_expr.specs.declared.found.Found.{Found}
+use Rattle.dk_expr.specs.declared.found.Parsed.{Parsed}
 
 module _ (text : List ℕ) (names : List (List ℕ)) (vars : List VarId) (s : State) where
   -- a part tells nothing of how much is read
-  at_kept : (p : Part) (f : Found) → (marked vars s p f).at ≡ f.at
+  at_kept : (p : Part) (f : Parsed) → (marked vars s p f).at ≡ f.at
   at_kept (word bytes) f = refl
   at_kept (named role) f = refl
   at_kept bound f = refl
@@ -27,18 +27,18 @@ module _ (text : List ℕ) (names : List (List ℕ)) (vars : List VarId) (s : St
   at_kept step f = refl
 
   -- behind a part stands what the following ones say
-  pub behind : (p : Part) (ps : List Part) (f : Found) → drop f.at text ≡ text_by (p ∷ ps) names s → drop (followed names vars s p f).at text ≡ text_by ps names s
+  pub behind : (p : Part) (ps : List Part) (f : Parsed) → drop f.at text ≡ text_by (p ∷ ps) names s → drop (followed names vars s p f).at text ≡ text_by ps names s
   behind p ps f is =
       ap (λ n. drop (n + length (part_text names s p)) text) (at_kept p f)
       ∙ sym (drop-drop (length (part_text names s p)) f.at text)
       ∙ ap (drop (length (part_text names s p))) is
       ∙ drop_at (part_text names s p) (text_by ps names s) (length (part_text names s p)) refl
 
-  module _ (P : Found → Type 0) (sets : Part → Bool)
-      (keeps : (p : Part) (f : Found) → sets p ≡ false → P f → P (followed names vars s p f))
-      (does : (p : Part) (ps : List Part) (f : Found) → sets p ≡ true → is_ended (length vars) p ps ≡ true → drop f.at text ≡ text_by (p ∷ ps) names s → P (followed names vars s p f)) where
+  module _ (P : Parsed → Type 0) (sets : Part → Bool)
+      (keeps : (p : Part) (f : Parsed) → sets p ≡ false → P f → P (followed names vars s p f))
+      (does : (p : Part) (ps : List Part) (f : Parsed) → sets p ≡ true → is_ended (length vars) p ps ≡ true → drop f.at text ≡ text_by (p ∷ ps) names s → P (followed names vars s p f)) where
     -- what holds of what is found holds behind all parts
-    pub all_kept : (ps : List Part) (f : Found) → are_ended (length vars) ps ≡ true → drop f.at text ≡ text_by ps names s → P f → P (all_followed names vars s ps f)
+    pub all_kept : (ps : List Part) (f : Parsed) → are_ended (length vars) ps ≡ true → drop f.at text ≡ text_by ps names s → P f → P (all_followed names vars s ps f)
     all_kept [] f ended is h = h
     all_kept (p ∷ ps) f ended is h =
         let both = and_parts (is_ended (length vars) p ps) (are_ended (length vars) ps) ended in
@@ -49,7 +49,7 @@ module _ (text : List ℕ) (names : List (List ℕ)) (vars : List VarId) (s : St
         by false e here = keeps p f e h
 
     -- and what one of the parts tells
-    pub some_told : (ps : List Part) (f : Found) → are_ended (length vars) ps ≡ true → drop f.at text ≡ text_by ps names s → list_any sets ps ≡ true → P (all_followed names vars s ps f)
+    pub some_told : (ps : List Part) (f : Parsed) → are_ended (length vars) ps ≡ true → drop f.at text ≡ text_by ps names s → list_any sets ps ≡ true → P (all_followed names vars s ps f)
     some_told [] f ended is any = absurd (false≢true any)
     some_told (p ∷ ps) f ended is any =
         by (sets p) refl (and_parts (is_ended (length vars) p ps) (are_ended (length vars) ps) ended) any

@@ -10,17 +10,17 @@ use Rattle.dk_print.specs.Parts.{Part}
 use Rattle.dk_expr.specs.Following.{past, with_var}
 use Rattle.dk_expr.specs.Naming.{HaveLengths, Listed, has_length}
 use Rattle.dk_expr.specs.Readable.{may_be}
-use Rattle.dk_expr.specs.declared.found.Found.{Found}
+use Rattle.dk_expr.specs.declared.found.Parsed.{Parsed}
 
 pub contains_map : {X Y : Type 0} (f : X → Y) (xs : List X) (x : X) → Contains xs x → Contains (map f xs) (f x)
 contains_map f xs x (k, lt, is) = (k, subst (λ n. k < n) (sym (length-map xs f)) lt, get_or-map f xs k x (f x) lt ∙ ap f is)
 
 -- names of these lengths are looked up
-pub record IsSearched (listed : Listed) (role : ℕ) (following : List Part) (found : Found) (rest : List ℕ) (old new : List Found) (lengths : List ℕ) : Type 0 where
-  pub keeps : (x : Found) → Contains old x → Contains new x
+pub record IsSearched (listed : Listed) (role : ℕ) (following : List Part) (found : Parsed) (rest : List ℕ) (old new : List Parsed) (lengths : List ℕ) : Type 0 where
+  pub keeps : (x : Parsed) → Contains old x → Contains new x
   pub finds : (name more : List ℕ) (v : VarId) → has_length lengths (length name) ≡ true → rest ≡ name ++ more → may_be following more ≡ true → Contains (noted_under listed name) v → Contains new (with_var role v (past (length name) found))
 
-module _ (listed : Listed) (role : ℕ) (following : List Part) (found : Found) (rest : List ℕ) (old : List Found) where
+module _ (listed : Listed) (role : ℕ) (following : List Part) (found : Parsed) (rest : List ℕ) (old : List Parsed) where
   pub none_searched : IsSearched listed role following found rest old old []
   none_searched = record { keeps = λ x h. h; finds = λ name more v among. absurd (false≢true among) }
 
@@ -36,7 +36,7 @@ module _ (listed : Listed) (role : ℕ) (following : List Part) (found : Found) 
         by false false p q h = absurd (false≢true h)
 
     -- one that is longer than the text
-    pub passed_searched : (mid : List Found) → length rest < len
+    pub passed_searched : (mid : List Parsed) → length rest < len
         → IsSearched listed role following found rest old mid before → IsSearched listed role following found rest old mid after
     passed_searched mid long so_far =
         record {
@@ -51,9 +51,9 @@ module _ (listed : Listed) (role : ℕ) (following : List Part) (found : Found) 
             let all : length rest ≡ length name + length more = ap length e ∙ length-append name more in
             absurd (omega (arith, all, at, long))
 
-    module _ (mid new pushed : List Found) (is : new ≡ mid ++ pushed) (are : pushed ≡ map (λ v. with_var role v (past len found)) (noted_under listed (take len rest)))
+    module _ (mid new pushed : List Parsed) (is : new ≡ mid ++ pushed) (are : pushed ≡ map (λ v. with_var role v (past len found)) (noted_under listed (take len rest)))
         (so_far : IsSearched listed role following found rest old mid before) where
-      here : (x : Found) → Contains (mid ++ pushed) x → Contains new x
+      here : (x : Parsed) → Contains (mid ++ pushed) x → Contains new x
       here x h = subst (λ l. Contains l x) (sym is) h
 
       looked : (name more : List ℕ) (v : VarId) → rest ≡ name ++ more → Contains (noted_under listed name) v → length name ≡ len
@@ -77,7 +77,7 @@ module _ (listed : Listed) (role : ℕ) (following : List Part) (found : Found) 
           by name more v e may there (inr at) = looked name more v e there at
 
     -- one that nothing of the parts can follow
-    pub same_searched : (mid : List Found) → may_be following (drop len rest) ≡ false
+    pub same_searched : (mid : List Parsed) → may_be following (drop len rest) ≡ false
         → IsSearched listed role following found rest old mid before → IsSearched listed role following found rest old mid after
     same_searched mid differs so_far =
         record {
@@ -92,7 +92,7 @@ module _ (listed : Listed) (role : ℕ) (following : List Part) (found : Found) 
             let back : drop len rest ≡ more = ap (drop len) e ∙ drop_at name more len at in
             absurd (false≢true (sym differs ∙ ap (may_be following) back ∙ may))
 
-    pub step_searched : (mid new : List Found)
+    pub step_searched : (mid new : List Parsed)
         → new ≡ (if may_be following (drop len rest) then mid ++ map (λ v. with_var role v (past len found)) (noted_under listed (take len rest)) else mid)
         → IsSearched listed role following found rest old mid before → IsSearched listed role following found rest old new after
     step_searched mid new is so_far = by (may_be following (drop len rest)) refl is
@@ -104,6 +104,6 @@ module _ (listed : Listed) (role : ℕ) (following : List Part) (found : Found) 
         by false e h = subst (λ l. IsSearched listed role following found rest old l after) (sym h) (same_searched mid e so_far)
 
   -- where all of the names are looked up
-  pub all_searched : (new : List Found) (lengths : List ℕ) → HaveLengths listed lengths → IsSearched listed role following found rest old new lengths
+  pub all_searched : (new : List Parsed) (lengths : List ℕ) → HaveLengths listed lengths → IsSearched listed role following found rest old new lengths
       → (name more : List ℕ) (v : VarId) → rest ≡ name ++ more → may_be following more ≡ true → Contains (noted_under listed name) v → Contains new (with_var role v (past (length name) found))
   all_searched new lengths have so_far name more v e may there = so_far.finds name more v (have name v there) e may there

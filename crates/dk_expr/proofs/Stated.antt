@@ -19,7 +19,7 @@ use Rattle.dk_expr.specs.Held.{is_held}
 use Rattle.dk_expr.specs.Readable.{says_null}
 use Rattle.dk_expr.specs.Telling.{Tells, printed_state}
 use Rattle.dk_expr.specs.Valued.{IsValueText}
-use Rattle.dk_expr.specs.declared.found.Found.{Found}
+use Rattle.dk_expr.specs.declared.found.Parsed.{Parsed}
 use Rattle.dk_expr.proofs.Shapes.{Shape, shape_of}
 use Rattle.dk_expr.proofs.Small.{small_whole}
 use Rattle.dk_expr.proofs.ValueTexts.{number_texts, number_value, string_value}
@@ -46,7 +46,7 @@ string_values : (ts : List (List ℕ)) → All (λ t. IsTrue (is_text t)) ts →
 string_values ts strings = All-weaker (λ t. IsTrue (is_text t)) IsValueText string_value ts strings
 
 -- ---- states
-module _ (text : List ℕ) (f : Found) where
+module _ (text : List ℕ) (f : Parsed) where
   -- what is made of it, by the form of the state
   abbrev pub Makes : StateForm → Option State → Type 0
   Makes form.Plain r = r ≡ Some state.Holds

@@ -25,7 +25,7 @@ use Rattle.dk_expr.specs.Naming.{var_at}
 use Rattle.dk_expr.specs.Readable.{are_ended}
 use Rattle.dk_expr.specs.Reads.{HasText}
 use Rattle.dk_expr.specs.Telling.{Tells}
-use Rattle.dk_expr.specs.declared.found.Found.{Found}
+use Rattle.dk_expr.specs.declared.found.Parsed.{Parsed}
 use Rattle.dk_expr.proofs.Foundings.{bound_found, code_found, constant_found, factor_found, modulus_found, names_role, offset_found, remainder_found, tells_bound, tells_code, tells_constant, tells_factor, tells_modulus, tells_offset, tells_remainder, tells_values, values_found, var_found, var_of}
 
 -- ---- the table
@@ -91,7 +91,7 @@ none_of [] long = refl
 none_of (v ∷ vars) long = absurd (omega arith)
 
 -- as many as the roles, which are at most three, are the variables
-vars_by : (n : ℕ) (vars : List VarId) (f : Found) → n ≤ 3 → length vars ≡ n → ((k : ℕ) → k < n → var_of k f ≡ var_at vars k) → first_vars n f ≡ vars
+vars_by : (n : ℕ) (vars : List VarId) (f : Parsed) → n ≤ 3 → length vars ≡ n → ((k : ℕ) → k < n → var_of k f ≡ var_at vars k) → first_vars n f ≡ vars
 vars_by zero vars f few long each = none_of vars long
 vars_by (suc zero) vars f few long each = ap (λ v. v ∷ []) (each 0 (omega arith)) ∙ some_one vars long
 vars_by (suc (suc zero)) vars f few long each =
@@ -126,7 +126,7 @@ pub plane_above : (a b c : ℤ) → (pos 0 <ℤ a) ⊎ ((a ≡ pos 0) × ((pos 0
 plane_above a b c (inl lt) h = above_zero a lt
 plane_above a b c (inr z) h = absurd (false≢true (sym (ap is_nonzero z.0) ∙ h))
 
-module _ (text : List ℕ) (names : List (List ℕ)) (vars : List VarId) (ps : List Part) (f : Found)
+module _ (text : List ℕ) (names : List (List ℕ)) (vars : List VarId) (ps : List Part) (f : Parsed)
     (ended : are_ended (length vars) ps ≡ true) where
   state_found : (form : StateForm) (s : State) → drop f.at text ≡ text_by ps names s → tell form ps ≡ true → IsProper form s → IsTrue (fits s) → Tells text (all_followed names vars s ps f) s
   state_found form.Plain state.Holds is told p h = tt

@@ -5,16 +5,16 @@ use Rattle.dk_forms.specs.declared.states.State.{State}
 use Rattle.dk_graph.specs.Notes.{noted_under}
 use Rattle.dk_print.specs.Parts.{Part, word, named, bound, values, null_or, remainder, modulus, lead, term, constant, step, bound_in, constant_term_in, factor_at, modulus_in, name_at, offset_in, part_text, remainder_in}
 use Rattle.dk_expr.specs.Naming.{Listed, no_var, var_at}
-use Rattle.dk_expr.specs.declared.found.Found.{Found}
+use Rattle.dk_expr.specs.declared.found.Parsed.{Parsed}
 use Rattle.dk_expr.specs.declared.found.Said.{Said}
 use Rattle.dk_expr.specs.declared.found.Said.TheVariants as said
 
 -- ---- changes of what is found
 -- so many more bytes are read
-abbrev pub past : ℕ → Found → Found
+abbrev pub past : ℕ → Parsed → Parsed
 past len f = record f { at = f.at + len }
 
-abbrev pub with_var : ℕ → VarId → Found → Found
+abbrev pub with_var : ℕ → VarId → Parsed → Parsed
 with_var role v f =
     record f {
       first = if role == 0 then v else f.first;
@@ -22,7 +22,7 @@ with_var role v f =
       third = if role == 2 then v else f.third;
     }
 
-abbrev pub with_factor : ℕ → ℤ → Found → Found
+abbrev pub with_factor : ℕ → ℤ → Parsed → Parsed
 with_factor role k f =
     record f {
       first_factor = if role == 0 then k else f.first_factor;
@@ -31,7 +31,7 @@ with_factor role k f =
     }
 
 -- the number that a part tells
-abbrev pub with_number : Said → ℤ → Found → Found
+abbrev pub with_number : Said → ℤ → Parsed → Parsed
 with_number said.Bound k f = record f { bound = k }
 with_number said.Remainder k f = record f { remainder = k }
 with_number said.Modulus k f = record f { modulus = k }
@@ -43,7 +43,7 @@ abbrev pub with_sign : Bool → ℤ → ℤ
 with_sign is_negative k = if is_negative then neg_ℤ k else k
 
 -- nothing is found yet
-abbrev pub start : Found
+abbrev pub start : Parsed
 start =
     record {
       at = 0;
@@ -64,7 +64,7 @@ start =
 
 -- ---- an instance
 -- what a part tells of the variables and their state, behind what is found
-abbrev pub marked : List VarId → State → Part → Found → Found
+abbrev pub marked : List VarId → State → Part → Parsed → Parsed
 marked vars s (word bytes) f = f
 marked vars s (named role) f = with_var role (var_at vars role) f
 marked vars s bound f = record f { bound = bound_in s }
@@ -78,11 +78,11 @@ marked vars s constant f = record f { constant = constant_term_in s }
 marked vars s step f = record f { offset = offset_in s }
 
 -- the part is read
-abbrev pub followed : List (List ℕ) → List VarId → State → Part → Found → Found
+abbrev pub followed : List (List ℕ) → List VarId → State → Part → Parsed → Parsed
 followed names vars s p f = past (length (part_text names s p)) (marked vars s p f)
 
 -- the parts are read, one after another
-abbrev pub all_followed : List (List ℕ) → List VarId → State → List Part → Found → Found
+abbrev pub all_followed : List (List ℕ) → List VarId → State → List Part → Parsed → Parsed
 all_followed names vars s [] f = f
 all_followed names vars s (p ∷ parts) f = all_followed names vars s parts (followed names vars s p f)
 

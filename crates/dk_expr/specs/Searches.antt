@@ -8,33 +8,33 @@ use Rattle.dk_print.specs.Parts.{Part, constant_term_text, step_text, term_text,
 use Rattle.dk_expr.specs.Following.{IsSought, all_followed, followed, past, with_factor, with_sign, with_var}
 use Rattle.dk_expr.specs.Naming.{Listed}
 use Rattle.dk_expr.specs.Readable.{are_ended, begins_behind_number, may_be}
-use Rattle.dk_expr.specs.declared.found.Found.{Found}
+use Rattle.dk_expr.specs.declared.found.Parsed.{Parsed}
 
 -- what was found still is
-abbrev pub KeepsAll : List Found → List Found → Type 0
-KeepsAll old new = (x : Found) → Contains old x → Contains new x
+abbrev pub KeepsAll : List Parsed → List Parsed → Type 0
+KeepsAll old new = (x : Parsed) → Contains old x → Contains new x
 
 -- ---- numbers
 -- the number behind what is found, with what is told of it
-abbrev pub FindsNumber : List ℕ → Found → (ℤ → Found) → Option Found → Type 0
+abbrev pub FindsNumber : List ℕ → Parsed → (ℤ → Parsed) → Option Parsed → Type 0
 FindsNumber text f told found =
     (z : ℤ) (more : List ℕ) → unsigned_abs z < 2 ^ 127 → begins_behind_number more ≡ true → drop f.at text ≡ signed_decimal z ++ more
     → found ≡ Some (past (length (signed_decimal z)) (told z))
 
 -- the number with its sign
-abbrev pub FindsStep : List ℕ → Found → (ℤ → Found) → Option Found → Type 0
+abbrev pub FindsStep : List ℕ → Parsed → (ℤ → Parsed) → Option Parsed → Type 0
 FindsStep text f told found =
     (k : ℤ) (more : List ℕ) → unsigned_abs k < 2 ^ 127 → begins_behind_number more ≡ true → drop f.at text ≡ step_text k ++ more
     → found ≡ Some (past (length (step_text k)) (told k))
 
 -- the constant with its sign, which may be left out
-abbrev pub FindsConstant : List ℕ → Found → (ℤ → Found) → List Found → Type 0
+abbrev pub FindsConstant : List ℕ → Parsed → (ℤ → Parsed) → List Parsed → Type 0
 FindsConstant text f told new =
     (k : ℤ) (more : List ℕ) → unsigned_abs k < 2 ^ 127 → begins_behind_number more ≡ true → drop f.at text ≡ constant_term_text k ++ more
     → Contains new (past (length (constant_term_text k)) (told k))
 
 -- ---- names, of variables at this role, with what the parts say behind them
-module _ (listed : Listed) (text : List ℕ) (role : ℕ) (ps : List Part) (f : Found) (new : List Found) where
+module _ (listed : Listed) (text : List ℕ) (role : ℕ) (ps : List Part) (f : Parsed) (new : List Parsed) where
   abbrev pub FindsName : Type 0
   FindsName =
       (name more : List ℕ) (v : VarId) → drop f.at text ≡ name ++ more → may_be ps more ≡ true → Contains (noted_under listed name) v
@@ -64,13 +64,13 @@ module _ (listed : Listed) (text : List ℕ) (role : ℕ) (ps : List Part) (f : 
 
 -- ---- parts
 -- what a part, with the others behind it, tells of what is sought
-abbrev pub FindsPart : Listed → List ℕ → Part → List Part → Found → List Found → Type 0
+abbrev pub FindsPart : Listed → List ℕ → Part → List Part → Parsed → List Parsed → Type 0
 FindsPart listed text p ps f new =
     (called : List (List ℕ)) (vars : List VarId) (s : State) → IsSought listed called vars s → are_ended (length vars) (p ∷ ps) ≡ true
     → drop f.at text ≡ text_by (p ∷ ps) called s → Contains new (followed called vars s p f)
 
 -- what parts tell, one after another
-abbrev pub FindsParts : Listed → List ℕ → List Part → Found → List Found → Type 0
+abbrev pub FindsParts : Listed → List ℕ → List Part → Parsed → List Parsed → Type 0
 FindsParts listed text ps f ends =
     (called : List (List ℕ)) (vars : List VarId) (s : State) → IsSought listed called vars s → are_ended (length vars) ps ≡ true
     → drop f.at text ≡ text_by ps called s → Contains ends (all_followed called vars s ps f)

@@ -4,7 +4,7 @@ use Rattle.dk_forms.specs.declared.states.State.{State}
 use Rattle.dk_forms.specs.declared.states.State.TheVariants as state
 use Rattle.dk_print.specs.Parts.{known_text}
 use Rattle.dk_expr.specs.Readable.{says_null}
-use Rattle.dk_expr.specs.declared.found.Found.{Found}
+use Rattle.dk_expr.specs.declared.found.Parsed.{Parsed}
 
 -- a state that prints the same: of a hash code only whether it is null is printed
 abbrev pub printed_state : State → State
@@ -12,7 +12,7 @@ printed_state (state.Code h) = state.Code (if h == 0 then 0 else 1)
 printed_state s = s
 
 -- what is found in the text is what the state has to tell
-abbrev pub Tells : List ℕ → Found → State → Type 0
+abbrev pub Tells : List ℕ → Parsed → State → Type 0
 Tells text f (state.Least k) = f.bound ≡ k
 Tells text f (state.Greatest k) = f.bound ≡ k
 Tells text f (state.Ints ks) = drop f.values text ≡ known_text (state.Ints ks)

@@ -6,7 +6,7 @@ use dk_base::VarId;
 
 /// What is found of an instance in the front of a text: its variables, and the numbers that its parts tell. What isn't found yet is 0.
 #[derive(Clone, Copy)]
-pub(crate) struct Found {
+pub(crate) struct Parsed {
     /// How many bytes are read.
     pub(crate) at: usize,
     /// The variables, by role.
@@ -48,12 +48,12 @@ fn chosen<T: Copy>(is_new: bool, new: T, old: T) -> T
     if is_new { new } else { old }
 }
 
-impl Found {
+impl Parsed {
     /// Nothing is found yet.
-    pub(crate) fn start() -> Found
+    pub(crate) fn start() -> Parsed
         ensures { result ≡ start }
     {
-        Found {
+        Parsed {
             at: 0,
             first: VarId(0),
             second: VarId(0),
@@ -72,21 +72,21 @@ impl Found {
     }
 
     /// With so many more bytes read.
-    pub(crate) fn past(self, len: usize) -> Found
+    pub(crate) fn past(self, len: usize) -> Parsed
         requires { self.at + len < 2 ^ 64 }
         ensures { result ≡ past len self }
     {
-        Found {
+        Parsed {
             at: self.at + len,
             ..self
         }
     }
 
     /// With the variable at this role.
-    pub(crate) fn with_var(self, role: usize, v: VarId) -> Found
+    pub(crate) fn with_var(self, role: usize, v: VarId) -> Parsed
         ensures { result ≡ with_var role v self }
     {
-        Found {
+        Parsed {
             first: chosen(role == 0, v, self.first),
             second: chosen(role == 1, v, self.second),
             third: chosen(role == 2, v, self.third),
@@ -95,10 +95,10 @@ impl Found {
     }
 
     /// With the factor of the variable at this role.
-    pub(crate) fn with_factor(self, role: usize, factor: i128) -> Found
+    pub(crate) fn with_factor(self, role: usize, factor: i128) -> Parsed
         ensures { result ≡ with_factor role factor self }
     {
-        Found {
+        Parsed {
             first_factor: chosen(role == 0, factor, self.first_factor),
             second_factor: chosen(role == 1, factor, self.second_factor),
             third_factor: chosen(role == 2, factor, self.third_factor),
@@ -107,27 +107,27 @@ impl Found {
     }
 
     /// With the number that a part tells.
-    pub(crate) fn with_number(self, said: Said, number: i128) -> Found
+    pub(crate) fn with_number(self, said: Said, number: i128) -> Parsed
         ensures { result ≡ with_number said number self }
     {
         match said {
-            Said::Bound => Found {
+            Said::Bound => Parsed {
                 bound: number,
                 ..self
             },
-            Said::Remainder => Found {
+            Said::Remainder => Parsed {
                 remainder: number,
                 ..self
             },
-            Said::Modulus => Found {
+            Said::Modulus => Parsed {
                 modulus: number,
                 ..self
             },
-            Said::Offset => Found {
+            Said::Offset => Parsed {
                 offset: number,
                 ..self
             },
-            Said::Constant => Found {
+            Said::Constant => Parsed {
                 constant: number,
                 ..self
             },

@@ -13,5 +13,5 @@ mod values;
 mod walking;
 
 pub use assertions::Assertion;
-pub use names::Names;
+pub use names::VarNames;
 pub use reading::{read, read_by};

@@ -10,13 +10,13 @@ use std::marker::Model;
 
 /// The variables of a point, listed under their names.
 #[derive(Drop)]
-pub struct Names {
+pub struct VarNames {
     alloc: Global,
     table: IndexMap<Vec<u8>, List<VarId>>,
     lengths: List<usize>,
 }
 
-impl Model for Names {
+impl Model for VarNames {
     ghost use Rattle.std.specs.Prelude.{List, ℕ, map};
     ghost use Rattle.dk_base.specs.declared.kinds.VarId.{VarId};
     ghost use Rattle.dk_expr.specs.Naming.{HaveLengths};
@@ -70,12 +70,12 @@ fn put(
     Ok(more)
 }
 
-impl Names {
+impl VarNames {
     // The names of no variables.
-    fn new(alloc: Global) -> Names
+    fn new(alloc: Global) -> VarNames
         ensures { result ≡ [] }
     {
-        Names {
+        VarNames {
             alloc,
             table: IndexMap::new(alloc),
             lengths: List::new(alloc),
@@ -100,17 +100,17 @@ impl Names {
     }
 
     // One variable more, last under its name.
-    fn with(self, name: &[u8], v: VarId) -> Result<Names, NoMemory>
+    fn with(self, name: &[u8], v: VarId) -> Result<VarNames, NoMemory>
         ensures { IfOk result (λ names. names ≡ noted self name.now v) }
     {
-        let Names {
+        let VarNames {
             alloc,
             table,
             lengths,
         } = self;
         let lengths = with_length(lengths, name.len())?;
         let table = put(alloc, table, name, v)?;
-        Ok(Names {
+        Ok(VarNames {
             alloc,
             table,
             lengths,
@@ -118,11 +118,11 @@ impl Names {
     }
 
     /// A point's variables, each under its name. There must be fewer than 2^32 of them.
-    pub fn of(alloc: Global, vars: &[VarInfo]) -> Result<Names, NoMemory>
+    pub fn of(alloc: Global, vars: &[VarInfo]) -> Result<VarNames, NoMemory>
         requires { length vars.now < 2 ^ 32 }
         ensures { IfOk result (λ names. AreUnderNames vars.now names) }
     {
-        let mut names = Names::new(alloc);
+        let mut names = VarNames::new(alloc);
         for (place, info) in vars.iter().enumerate() {
             names = names.with(info.name.as_slice(), VarId(place as u32))?;
         }

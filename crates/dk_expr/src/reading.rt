@@ -13,11 +13,11 @@ ghost use Rattle.dk_expr.specs.Held.{is_held};
 ghost use Rattle.dk_expr.specs.Naming.{AreUnderNames};
 ghost use Rattle.dk_expr.specs.Reads.{HasNone, HasText, IsRead, told_state};
 ghost use Rattle.dk_expr.specs.declared.assertions.Assertion.{Assertion};
-ghost use Rattle.dk_expr.specs.declared.found.Found.{Found};
+ghost use Rattle.dk_expr.specs.declared.found.Parsed.{Parsed};
 
 use crate::Assertion;
-use crate::found::Found;
-use crate::names::Names;
+use crate::found::Parsed;
+use crate::names::VarNames;
 use crate::states::state_of;
 use crate::walking::behind_all;
 use dk_base::{List, NoMemory, VarId, VarInfo};
@@ -63,7 +63,7 @@ fn prints(
 }
 
 // The variables that were found, as many as the row takes.
-fn vars_of(row: RowId, found: Found) -> Tuple
+fn vars_of(row: RowId, found: Parsed) -> Tuple
     requires { IsRow row }
     ensures { result ≡ first_vars (arity_of row) found }
 {
@@ -103,7 +103,7 @@ fn candidate(
     infos: &[VarInfo],
     text: &[u8],
     row: RowId,
-    found: Found,
+    found: Parsed,
 ) -> Result<Option<Assertion>, NoMemory>
     requires { IsRow row }
     ensures has { IfOk result (λ read. IfSome read (λ a. (a.row ≡ row) × HasText infos.now text.now row a.vars a.state)) }
@@ -145,11 +145,11 @@ fn least_among(
     infos: &[VarInfo],
     text: &[u8],
     row: RowId,
-    ends: &[Found],
+    ends: &[Parsed],
 ) -> Result<Option<Assertion>, NoMemory>
     requires { IsRow row }
     ensures has { IfOk result (λ read. IfSome read (λ a. (a.row ≡ row) × HasText infos.now text.now row a.vars a.state)) }
-    ensures least { IfOk result (λ read. (vars : List VarId) (s : State) (found : Found) → HasText infos.now text.now row vars s → Contains ends.now found → IsFoundBy text.now row vars s found → IsNoLater read vars) }
+    ensures least { IfOk result (λ read. (vars : List VarId) (s : State) (found : Parsed) → HasText infos.now text.now row vars s → Contains ends.now found → IsFoundBy text.now row vars s found → IsNoLater read vars) }
 {
     let mut least = None;
     for found in ends {
@@ -163,7 +163,7 @@ fn least_among(
 fn first_of(
     alloc: Global,
     infos: &[VarInfo],
-    names: &Names,
+    names: &VarNames,
     text: &[u8],
     row: RowId,
 ) -> Result<Option<Assertion>, NoMemory>
@@ -173,7 +173,7 @@ fn first_of(
     ensures least { IfOk result (λ read. (vars : List VarId) (s : State) → HasText infos.now text.now row vars s → IsNoLater read vars) }
 {
     let mut start = List::new(alloc);
-    start.push(Found::start())?;
+    start.push(Parsed::start())?;
     let ends = behind_all(alloc, names, text, parts_of(row), start)?;
     least_among(alloc, infos, text, row, ends.as_slice())
 }
@@ -207,7 +207,7 @@ fn as_told(assertion: Assertion) -> Assertion
 pub fn read_by(
     alloc: Global,
     vars: &[VarInfo],
-    names: &Names,
+    names: &VarNames,
     text: &[u8],
 ) -> Result<Option<Assertion>, NoMemory>
     requires { AreUnderNames vars.now names.now }
@@ -230,6 +230,6 @@ pub fn read(alloc: Global, vars: &[VarInfo], text: &[u8]) -> Result<Option<Asser
     ensures read { IfOk result (λ read. IfSome read (λ a. IsRead vars.now text.now a)) }
     ensures none { IfOk result (λ read. IfNone read (HasNone vars.now text.now)) }
 {
-    let names = Names::of(alloc, vars)?;
+    let names = VarNames::of(alloc, vars)?;
     read_by(alloc, vars, &names, text)
 }

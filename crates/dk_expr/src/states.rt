@@ -10,7 +10,7 @@ ghost use Rattle.dk_expr.specs.Held.{is_held};
 ghost use Rattle.dk_expr.specs.Readable.{says_null};
 ghost use Rattle.dk_expr.specs.Telling.{Tells, printed_state};
 
-use crate::found::Found;
+use crate::found::Parsed;
 use crate::values::{ints_of, values_in};
 use dk_base::{NoMemory, in_i64, in_u64};
 use dk_template::{State, StateForm};
@@ -100,7 +100,7 @@ pub(crate) fn state_of(
     alloc: Global,
     form: StateForm,
     text: &[u8],
-    found: Found,
+    found: Parsed,
 ) -> Result<Option<State>, NoMemory>
     ensures told { IfOk result (λ state. (s : SomeState) → IsProper form s → IsTrue (fits s) → IsTrue (is_held s) → Tells text.now found s → state ≡ Some (printed_state s)) }
     ensures held { IfOk result (λ state. IfSome state (λ s. IsTrue (is_held s))) }

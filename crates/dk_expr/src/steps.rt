@@ -5,10 +5,10 @@ ghost use Rattle.dk_expr.specs.Following.{past, with_number, with_var};
 ghost use Rattle.dk_expr.specs.Readable.{begins_blank, may_be};
 ghost use Rattle.dk_expr.specs.Searches.{FindsConstant, FindsName, FindsNumber, FindsPart, FindsProduct, FindsStep, FindsTerm, FindsTimes, KeepsAll};
 ghost use Rattle.dk_print.specs.Shown.{part_shown};
-ghost use Rattle.dk_expr.specs.declared.found.Found.{Found};
+ghost use Rattle.dk_expr.specs.declared.found.Parsed.{Parsed};
 
-use crate::found::{Found, Said};
-use crate::names::Names;
+use crate::found::{Parsed, Said};
+use crate::names::VarNames;
 use crate::numbers::{number_at, sign_at, step_at, with_sign};
 use dk_base::{List, NoMemory, VarId};
 use dk_print::Part;
@@ -40,8 +40,8 @@ fn may_be(parts: &[Part], bytes: &[u8]) -> bool
 fn push_vars(
     vars: &[VarId],
     role: usize,
-    found: Found,
-    list: &mut List<Found>,
+    found: Parsed,
+    list: &mut List<Parsed>,
 ) -> Result<(), NoMemory>
     ensures { OnOk result (list.new ≡ list.old ++ map (λ v. with_var role v found) vars.now) }
 {
@@ -53,13 +53,13 @@ fn push_vars(
 
 // The name of a variable, which is at the role, in so many bytes, with the following parts behind it.
 fn push_named_len(
-    names: &Names,
+    names: &VarNames,
     rest: &[u8],
     len: usize,
     role: usize,
     following: &[Part],
-    found: Found,
-    list: &mut List<Found>,
+    found: Parsed,
+    list: &mut List<Parsed>,
 ) -> Result<(), NoMemory>
     requires within { len ≤ length rest.now }
     requires fits { found.at + len < 2 ^ 64 }
@@ -75,12 +75,12 @@ fn push_named_len(
 
 // The name of a variable, which is at the role, with the following parts behind it. Only as many bytes as some name has are looked up.
 fn push_named(
-    names: &Names,
+    names: &VarNames,
     text: &[u8],
     role: usize,
     following: &[Part],
-    found: Found,
-    list: &mut List<Found>,
+    found: Parsed,
+    list: &mut List<Parsed>,
 ) -> Result<(), NoMemory>
     ensures keeps { OnOk result (KeepsAll list.old list.new) }
     ensures finds { OnOk result (FindsName names.now text.now role (map part_shown following.now) found list.new) }
@@ -97,13 +97,13 @@ fn push_named(
 
 // A name with a factor of this sign in front of it.
 fn push_product(
-    names: &Names,
+    names: &VarNames,
     text: &[u8],
     role: usize,
     is_negative: bool,
     following: &[Part],
-    found: Found,
-    list: &mut List<Found>,
+    found: Parsed,
+    list: &mut List<Parsed>,
 ) -> Result<(), NoMemory>
     ensures keeps { OnOk result (KeepsAll list.old list.new) }
     ensures finds { OnOk result (FindsProduct names.now text.now role (map part_shown following.now) found list.new is_negative) }
@@ -122,13 +122,13 @@ fn push_product(
 
 // A name, times a factor of this sign, which is left out where it is 1.
 fn push_times(
-    names: &Names,
+    names: &VarNames,
     text: &[u8],
     role: usize,
     is_negative: bool,
     following: &[Part],
-    found: Found,
-    list: &mut List<Found>,
+    found: Parsed,
+    list: &mut List<Parsed>,
 ) -> Result<(), NoMemory>
     ensures keeps { OnOk result (KeepsAll list.old list.new) }
     ensures finds { OnOk result (FindsTimes names.now text.now role (map part_shown following.now) found list.new is_negative) }
@@ -140,12 +140,12 @@ fn push_times(
 
 // A further term: a sign, and a name with its factor.
 fn push_term(
-    names: &Names,
+    names: &VarNames,
     text: &[u8],
     role: usize,
     following: &[Part],
-    found: Found,
-    list: &mut List<Found>,
+    found: Parsed,
+    list: &mut List<Parsed>,
 ) -> Result<(), NoMemory>
     ensures keeps { OnOk result (KeepsAll list.old list.new) }
     ensures finds { OnOk result (FindsTerm names.now text.now role (map part_shown following.now) found list.new) }
@@ -167,9 +167,9 @@ fn push_term(
 }
 
 // What is found, if something is.
-fn push_some(found: Option<Found>, list: &mut List<Found>) -> Result<(), NoMemory>
+fn push_some(found: Option<Parsed>, list: &mut List<Parsed>) -> Result<(), NoMemory>
     ensures keeps { OnOk result (KeepsAll list.old list.new) }
-    ensures finds { OnOk result ((x : Found) → found ≡ Some x → Contains list.new x) }
+    ensures finds { OnOk result ((x : Parsed) → found ≡ Some x → Contains list.new x) }
 {
     match found {
         Some(found) => list.push(found),
@@ -178,7 +178,7 @@ fn push_some(found: Option<Found>, list: &mut List<Found>) -> Result<(), NoMemor
 }
 
 // The word behind what is found.
-fn with_word(text: &[u8], word: &[u8], found: Found) -> Option<Found>
+fn with_word(text: &[u8], word: &[u8], found: Parsed) -> Option<Parsed>
     ensures { (more : List ℕ) → drop found.at text.now ≡ word.now ++ more → result ≡ Some (past (length word.now) found) }
 {
     if found.rest(text).starts_with(word) {
@@ -189,7 +189,7 @@ fn with_word(text: &[u8], word: &[u8], found: Found) -> Option<Found>
 }
 
 // A number.
-fn with_number(text: &[u8], said: Said, found: Found) -> Option<Found>
+fn with_number(text: &[u8], said: Said, found: Parsed) -> Option<Parsed>
     ensures { FindsNumber text.now found (λ k. with_number said k found) result }
 {
     let number = number_at(found.rest(text))?;
@@ -197,7 +197,7 @@ fn with_number(text: &[u8], said: Said, found: Found) -> Option<Found>
 }
 
 // A number with its sign.
-fn with_step(text: &[u8], said: Said, found: Found) -> Option<Found>
+fn with_step(text: &[u8], said: Said, found: Parsed) -> Option<Parsed>
     ensures { FindsStep text.now found (λ k. with_number said k found) result }
 {
     let number = step_at(found.rest(text))?;
@@ -205,7 +205,7 @@ fn with_step(text: &[u8], said: Said, found: Found) -> Option<Found>
 }
 
 // A constant with its sign, or 0 where there is none.
-fn push_constant(text: &[u8], found: Found, list: &mut List<Found>) -> Result<(), NoMemory>
+fn push_constant(text: &[u8], found: Parsed, list: &mut List<Parsed>) -> Result<(), NoMemory>
     ensures keeps { OnOk result (KeepsAll list.old list.new) }
     ensures finds { OnOk result (FindsConstant text.now found (λ k. record found { constant = k }) list.new) }
 {
@@ -214,10 +214,10 @@ fn push_constant(text: &[u8], found: Found, list: &mut List<Found>) -> Result<()
 }
 
 // The values, which are all that is left.
-fn with_values(text: &[u8], found: Found) -> Found
+fn with_values(text: &[u8], found: Parsed) -> Parsed
     ensures { result ≡ past (length (drop found.at text.now)) (record found { values = found.at }) }
 {
-    let told = Found {
+    let told = Parsed {
         values: found.at,
         ..found
     };
@@ -225,10 +225,10 @@ fn with_values(text: &[u8], found: Found) -> Found
 }
 
 // What is said of a hash code, which is all that is left.
-fn with_code(text: &[u8], found: Found) -> Found
+fn with_code(text: &[u8], found: Parsed) -> Parsed
     ensures { result ≡ past (length (drop found.at text.now)) (record found { code = found.at }) }
 {
-    let told = Found {
+    let told = Parsed {
         code: found.at,
         ..found
     };
@@ -237,12 +237,12 @@ fn with_code(text: &[u8], found: Found) -> Found
 
 // The ways in which the part can be read behind what is found, with the following parts behind it.
 pub(crate) fn push_part(
-    names: &Names,
+    names: &VarNames,
     text: &[u8],
     part: Part,
     following: &[Part],
-    found: Found,
-    list: &mut List<Found>,
+    found: Parsed,
+    list: &mut List<Parsed>,
 ) -> Result<(), NoMemory>
     ensures keeps { OnOk result (KeepsAll list.old list.new) }
     ensures finds { OnOk result (FindsPart names.now text.now (part_shown part) (map part_shown following.now) found list.new) }

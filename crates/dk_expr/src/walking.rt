@@ -2,10 +2,10 @@
 ghost use Rattle.std.specs.Prelude.{Contains, IfOk, map};
 ghost use Rattle.dk_expr.specs.Searches.{FindsPart, FindsParts};
 ghost use Rattle.dk_print.specs.Shown.{part_shown};
-ghost use Rattle.dk_expr.specs.declared.found.Found.{Found};
+ghost use Rattle.dk_expr.specs.declared.found.Parsed.{Parsed};
 
-use crate::found::Found;
-use crate::names::Names;
+use crate::found::Parsed;
+use crate::names::VarNames;
 use crate::steps::push_part;
 use dk_base::{List, NoMemory};
 use dk_print::Part;
@@ -14,13 +14,13 @@ use std::alloc::Global;
 // The ways in which the part can be read behind each of what is found.
 fn behind_each(
     alloc: Global,
-    names: &Names,
+    names: &VarNames,
     text: &[u8],
     part: Part,
     following: &[Part],
-    before: &[Found],
-) -> Result<List<Found>, NoMemory>
-    ensures { IfOk result (λ next. (f : Found) → Contains before.now f → FindsPart names.now text.now (part_shown part) (map part_shown following.now) f next) }
+    before: &[Parsed],
+) -> Result<List<Parsed>, NoMemory>
+    ensures { IfOk result (λ next. (f : Parsed) → Contains before.now f → FindsPart names.now text.now (part_shown part) (map part_shown following.now) f next) }
 {
     let mut next = List::new(alloc);
     for found in before {
@@ -32,12 +32,12 @@ fn behind_each(
 /// The ways in which the parts can be read, one after another, behind what is found.
 pub(crate) fn behind_all(
     alloc: Global,
-    names: &Names,
+    names: &VarNames,
     text: &[u8],
     parts: &[Part],
-    before: List<Found>,
-) -> Result<List<Found>, NoMemory>
-    ensures { IfOk result (λ ends. (f : Found) → Contains before f → FindsParts names.now text.now (map part_shown parts.now) f ends) }
+    before: List<Parsed>,
+) -> Result<List<Parsed>, NoMemory>
+    ensures { IfOk result (λ ends. (f : Parsed) → Contains before f → FindsParts names.now text.now (map part_shown parts.now) f ends) }
 {
     match parts {
         [] => Ok(before),

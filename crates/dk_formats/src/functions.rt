@@ -9,7 +9,7 @@ ghost use Rattle.dk_formats.specs.Telling.{expression_of};
 use crate::formats::Sectioned;
 use dk_base::{NoMemory, Text, VarInfo};
 use dk_claims::{ReportLine, Section};
-use dk_expr::{Assertion, Names, read_by};
+use dk_expr::{Assertion, VarNames, read_by};
 use dk_functions::{push_assertion, push_closing, push_comment, push_opening};
 use dk_languages::{Base, Language, bases, telling};
 use std::alloc::Global;
@@ -74,7 +74,7 @@ fn parts_of(
     alloc: Global,
     language: Language,
     vars: &[VarInfo],
-    names: &Names,
+    names: &VarNames,
     lines: &[ReportLine],
 ) -> Result<Parts, NoMemory>
     requires { AreUnderNames vars.now names.now }
@@ -105,7 +105,7 @@ pub(crate) fn push_function(
     requires { length vars.now < 2 ^ 32 }
     ensures { OnOk result (AddsSection (Sectioned.In language) vars.now section.now text.old text.new) }
 {
-    let names = Names::of(alloc, vars)?;
+    let names = VarNames::of(alloc, vars)?;
     let parts = parts_of(alloc, language, vars, &names, section.lines.as_slice())?;
     text.append(parts.comments.as_slice())?;
     push_opening(alloc, text, language, vars, section.point.as_slice())?;

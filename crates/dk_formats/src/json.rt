@@ -8,7 +8,7 @@ ghost use Rattle.dk_json.specs.Lines.{claimed_fields, object_of, written};
 use crate::formats::Sectioned;
 use dk_base::{NoMemory, Text, VarInfo};
 use dk_claims::{ReportLine, Section};
-use dk_expr::{Assertion, Names, read_by};
+use dk_expr::{Assertion, VarNames, read_by};
 use dk_json::{Claimed, Instance, line};
 use std::alloc::Global;
 
@@ -61,7 +61,7 @@ fn push_lines(
     alloc: Global,
     text: &mut Text,
     vars: &[VarInfo],
-    names: &Names,
+    names: &VarNames,
     point: &[u8],
     lines: &[ReportLine],
 ) -> Result<(), NoMemory>
@@ -85,7 +85,7 @@ pub(crate) fn push_json(
     requires { length vars.now < 2 ^ 32 }
     ensures { OnOk result (AddsSection Sectioned.Json vars.now section.now text.old text.new) }
 {
-    let names = Names::of(alloc, vars)?;
+    let names = VarNames::of(alloc, vars)?;
     push_lines(
         alloc,
         text,

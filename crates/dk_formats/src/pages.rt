@@ -10,7 +10,7 @@ use crate::Format;
 use dk_base::{List, NoMemory, PointId, Text, VarInfo};
 use dk_claims::{ReportLine, Section};
 use dk_derive::derive;
-use dk_expr::{Assertion, Names, read_by};
+use dk_expr::{Assertion, VarNames, read_by};
 use dk_page::{Headings, PageLine, PageSection, group_of, page};
 use dk_points::Points;
 use dk_template::RowId;
@@ -45,7 +45,7 @@ fn page_line(
 fn page_lines(
     alloc: Global,
     vars: &[VarInfo],
-    names: &Names,
+    names: &VarNames,
     lines: &[ReportLine],
 ) -> Result<List<PageLine>, NoMemory>
     requires { AreUnderNames vars.now names.now }
@@ -70,7 +70,7 @@ fn lines_over(
     requires { length vars.now < 2 ^ 32 }
     ensures { IfOk result (ArePageLines vars.now section.now.lines) }
 {
-    let names = Names::of(alloc, vars)?;
+    let names = VarNames::of(alloc, vars)?;
     page_lines(alloc, vars, &names, section.lines.as_slice())
 }
 

@@ -11,7 +11,7 @@ const MOST_LINKS: u32 = 40;
 
 /// Where a file is written, and its place.
 #[derive(Drop)]
-struct Names<R: Alloc> {
+struct Paths<R: Alloc> {
     beside: PathBuf<R::A>,
     place: PathBuf<R::A>,
 }
@@ -21,7 +21,7 @@ struct Names<R: Alloc> {
 #[derive(Drop)]
 pub struct Replacement<R: Files + Alloc> {
     file: R::File,
-    names: Option<Names<R>>,
+    names: Option<Paths<R>>,
 }
 
 impl<R: Files + Alloc> Replacement<R> {
@@ -50,7 +50,7 @@ impl<R: Files + Alloc> Replacement<R> {
         remove_leftover(rt, beside.as_path())?;
         let replacement = Replacement {
             file: create_like(rt, beside.as_path(), &old)?,
-            names: Some(Names { beside, place }),
+            names: Some(Paths { beside, place }),
         };
         match replacement.keep_permissions(rt, &old) {
             Ok(()) => Ok(replacement),

@@ -4,8 +4,8 @@ use Rattle.std.proofs.lemmas.Bool.{cases_eq, cases_lt}
 use Rattle.std.proofs.lemmas.Bool.Decides.{nat_tests}
 use Rattle.std.proofs.lemmas.List.{append-nil, take_all, drop_all, take-append-le, length-take-le, drop_at}
 use Rattle.dk_base.specs.Reading.{Line}
-use Rattle.dk_lines.specs.declared.gather.Found.{Found}
-use Rattle.dk_lines.specs.declared.gather.Found.TheVariants.{End as Nothing, Line as Whole, Long, Many}
+use Rattle.dk_lines.specs.declared.gather.Upcoming.{Upcoming}
+use Rattle.dk_lines.specs.declared.gather.Upcoming.TheVariants.{End as Nothing, Line as Whole, Long, Many}
 use Rattle.dk_lines.specs.Cutting.{line_len, line_bytes, line_used, behind_line, judged, next_of, IsOpen}
 use Rattle.dk_lines.proofs.Cut.{len_lf, len_other, len_le, len_open, len_found}
 use Rattle.dk_lines.specs.Left.{Left, Over, Broken, LongLine, TooLong, Ends, Next, Piece, onto_first, pieces, size_of, lined_by, lined, lines_left, without_cr, OneLine}
@@ -202,7 +202,7 @@ has_bytes : (limit room m : ℕ) (xs : List ℕ) → next_of limit room xs ≡ W
 has_bytes limit room m [] e = absurd (cc (e))
 has_bytes limit room m (b ∷ bs) e = omega arith
 
-judged_of : (limit room : ℕ) (xs : List ℕ) (f : Found) → 0 < length xs → next_of limit room xs ≡ f → judged limit room (line_len xs) (line_used xs) ≡ f
+judged_of : (limit room : ℕ) (xs : List ℕ) (f : Upcoming) → 0 < length xs → next_of limit room xs ≡ f → judged limit room (line_len xs) (line_used xs) ≡ f
 judged_of limit room [] f h e = absurd (omega arith)
 judged_of limit room (b ∷ bs) f h e = e
 
@@ -256,7 +256,7 @@ at_fault limit room n e xs h = elim (cases_lt (line_len xs) (length xs)) [
   | inr g ↦ (record { bytes = xs; has_lf = false }, ([], first_last xs h (omega (arith, g, len_le xs))))
 ]
 
-has_some : (limit room : ℕ) (xs : List ℕ) (f : Found) → next_of limit room xs ≡ f → (f ≡ Nothing → ⊥) → 0 < length xs
+has_some : (limit room : ℕ) (xs : List ℕ) (f : Upcoming) → next_of limit room xs ≡ f → (f ≡ Nothing → ⊥) → 0 < length xs
 has_some limit room [] f e n = absurd (n (sym e))
 has_some limit room (b ∷ bs) f e n = omega arith
 

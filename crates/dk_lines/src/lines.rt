@@ -5,7 +5,7 @@ ghost use Rattle.dk_lines.specs.Left.{without_cr};
 ghost use Rattle.dk_lines.specs.Passing.{AreLines, PassesLines, ready_of};
 
 use crate::ahead::Ahead;
-use crate::gather::{Found, Stopped, gather};
+use crate::gather::{Stopped, Upcoming, gather};
 use dk_base::NoMemory;
 use dk_io::{Failed, Inputs};
 use std::alloc::Global;
@@ -204,14 +204,14 @@ impl Lines {
         let found = gather(inputs, &mut self.ahead, &mut self.line, limit, room);
         self.is_started = false;
         match found {
-            Ok(Found::Line(used)) => {
+            Ok(Upcoming::Line(used)) => {
                 self.is_started = true;
                 self.number += 1;
                 self.total += used;
                 Ok(true)
             }
-            Ok(Found::End) => Ok(false),
-            Ok(Found::Long) => {
+            Ok(Upcoming::End) => Ok(false),
+            Ok(Upcoming::Long) => {
                 self.total = self
                     .total
                     .saturating_add(limit + 1)
@@ -220,7 +220,7 @@ impl Lines {
                     line: self.number + 1,
                 })
             }
-            Ok(Found::Many) => {
+            Ok(Upcoming::Many) => {
                 self.total = self.limits.total + 1;
                 Err(LineFault::TooLong {
                     line: self.number + 1,

@@ -9,7 +9,7 @@ ghost use Rattle.dk_points.specs.Table.{declared_point, makes_exit};
 ghost use Rattle.dk_points.specs.Vars.{base_vars, entry_before};
 
 use crate::bare::have_bare_names;
-use crate::links::{Kept, kept_edges};
+use crate::links::{KeptEdges, kept_edges};
 use crate::places::Own;
 use crate::points::Points;
 use crate::roles::{entry_name, role_of};
@@ -107,7 +107,7 @@ impl Points {
         &self,
         decl: &PointDecl,
         combined: Option<&Text>,
-    ) -> Result<Kept, NoMemory>
+    ) -> Result<KeptEdges, NoMemory>
         requires { option_map (λ c. c.now) combined ≡ combined_of decl.now.name }
         ensures places { IfOk result (λ kept. kept.places ≡ map (λ e. e.0) (kept_edges self.now (declared_point decl.now))) }
         ensures links { IfOk result (λ kept. kept.links ≡ map (λ e. e.1.parent) (kept_edges self.now (declared_point decl.now))) }

@@ -10,7 +10,7 @@ ghost use Rattle.dk_points.specs.Links.{kept_edges};
 ghost use Rattle.dk_points.specs.Names.{combined_name, combined_of};
 ghost use Rattle.dk_points.specs.Table.{added_points, declared_point, implicit_exit, makes_exit, names};
 
-use crate::links::{Kept, kept_edges};
+use crate::links::{KeptEdges, kept_edges};
 use crate::places::{KeptPoint, Own};
 use crate::points::Points;
 use dk_base::{List, NoMemory, Text};
@@ -48,7 +48,7 @@ pub(crate) struct Added {
 fn declared_point(
     alloc: Global,
     own: Own,
-    kept: Kept,
+    kept: KeptEdges,
     combined: Option<Text>,
 ) -> Result<Added, NoMemory>
     ensures name { IfOk result (λ a. a.node.name ≡ own.decl.name) }

@@ -43,7 +43,7 @@ fn is_dropped(combined: Option<&Text>, taken: &[EdgeDecl], edge: &EdgeDecl) -> b
 
 // The kept edges of a declaration: their places in it, and their parents' names.
 #[derive(Drop)]
-pub(crate) struct Kept {
+pub(crate) struct KeptEdges {
     pub(crate) places: List<u64>,
     pub(crate) links: List<Text>,
 }
@@ -54,7 +54,7 @@ pub(crate) fn kept_edges(
     edges: &[EdgeDecl],
     combined: Option<&Text>,
     taken: &[EdgeDecl],
-) -> Result<Kept, NoMemory>
+) -> Result<KeptEdges, NoMemory>
     ensures places { IfOk result (λ kept. kept.places ≡ map (λ e. e.0) (kept_by (option_map (λ c. c.now) combined.entry) taken.now edges.now)) }
     ensures links { IfOk result (λ kept. kept.links ≡ map (λ e. e.1.parent) (kept_by (option_map (λ c. c.now) combined.entry) taken.now edges.now)) }
 {
@@ -66,5 +66,5 @@ pub(crate) fn kept_edges(
             links.push(Text::from_slice(alloc, edge.parent.as_slice())?)?;
         }
     }
-    Ok(Kept { places, links })
+    Ok(KeptEdges { places, links })
 }

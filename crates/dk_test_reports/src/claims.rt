@@ -2,7 +2,7 @@
 ghost use Rattle.std.specs.Prelude.{◌≡◌, IfOk, length};
 
 use dk_base::{Compar, Form, Kind, List, NoMemory, Text, VarId, VarInfo, View};
-use dk_expr::{Assertion, Names, read, read_by};
+use dk_expr::{Assertion, VarNames, read, read_by};
 use dk_template::{RowId, State, Tuple};
 use std::alloc::Global;
 use std::test::Fail;
@@ -73,7 +73,7 @@ fn lines_are_read_back(rt: HostRuntime) -> Result<(), Fail> {
     let alloc = rt.alloc();
     let list = infos(alloc)?;
     let infos = list.as_slice();
-    let names = Names::of(alloc, infos)?;
+    let names = VarNames::of(alloc, infos)?;
     for (text, row, places) in &CASES {
         assert!(rt; is_read(&read(alloc, infos, *text)?, *row, *places));
         assert!(rt; is_read(&read_by(alloc, infos, &names, *text)?, *row, *places));

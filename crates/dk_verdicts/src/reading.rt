@@ -10,7 +10,7 @@ use crate::findings::Finding;
 use dk_base::{NoMemory, PointId, VarInfo};
 use dk_claims::Claim;
 use dk_engine::Engine;
-use dk_expr::{Assertion, Names, read_by};
+use dk_expr::{Assertion, VarNames, read_by};
 use dk_hierarchy::engine_of;
 use dk_points::Points;
 use dk_template::Grammar;
@@ -36,7 +36,7 @@ pub(crate) fn add_engines(
 #[derive(Drop)]
 struct Listed {
     point: PointId,
-    names: Names,
+    names: VarNames,
 }
 
 // A point's variables by their names: the last ones, or new ones.
@@ -58,7 +58,7 @@ fn names_at(
     }
     Ok(Listed {
         point,
-        names: Names::of(alloc, vars)?,
+        names: VarNames::of(alloc, vars)?,
     })
 }
 

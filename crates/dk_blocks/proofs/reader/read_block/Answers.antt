@@ -8,8 +8,8 @@ use Rattle.dk_blocks.specs.declared.reader.Stop.{Stop}
 use Rattle.dk_blocks.specs.LineSteps.{ClosesAt, ShapeAt, StepGives, StepShape, StepCounts, TurnCounts}
 use Rattle.dk_blocks.proofs.Stepping.{begun, block_counts, closed_on, fits_at, told_on, told_stop}
 use Rattle.dk_blocks.specs.Turns.{AfterFits, Goes, Ends, ending_at, turn_of}
-use Rattle.dk_blocks.specs.declared.reader.After.{After}
-use Rattle.dk_blocks.specs.declared.reader.After.TheVariants as after
+use Rattle.dk_blocks.specs.declared.reader.Closed.{Closed}
+use Rattle.dk_blocks.specs.declared.reader.Closed.TheVariants as after
 use Rattle.dk_blocks.proofs.reader.read_block.Goals as goal
 
 pub reading-init : goal.reading-init
@@ -46,7 +46,7 @@ pub reading-preserved : goal.reading-preserved
 reading-preserved g c =
     let is : c.take_line.result ≡ Ok (Ended c.in-Ok-Ended.number c.in-Ok-Ended.is_over) = search rules in
     let turns : c.close_block.result ≡ Ok after.Goes = search rules in
-    let shape : ShapeAt c.in-Ok-Ended.is_over (Ok (Goes c.close_block.new.kept c.close_block.new.block)) = subst (λ (t : Result After Stop). ShapeAt c.in-Ok-Ended.is_over (turn_of c.close_block.new.kept c.close_block.new.block t)) turns c.close_block.ensures.shape in
+    let shape : ShapeAt c.in-Ok-Ended.is_over (Ok (Goes c.close_block.new.kept c.close_block.new.block)) = subst (λ (t : Result Closed Stop). ShapeAt c.in-Ok-Ended.is_over (turn_of c.close_block.new.kept c.close_block.new.block t)) turns c.close_block.ensures.shape in
     let counts : TurnCounts c.reading.lines (Ok (Goes c.close_block.new.kept c.close_block.new.block)) c.take_line.new.lines =
     subst (λ (t : Result Step Stop). StepCounts c.reading.lines t c.take_line.new.lines) is c.take_line.ensures.counts (Ok (Goes c.close_block.new.kept c.close_block.new.block)) shape in
     let same = subst (λ (t : Result Step Stop). StepShape c.reading.kept c.reading.block c.take_line.new.block t) is c.take_line.ensures.shape in
@@ -63,7 +63,7 @@ reading-preserved g c =
           (λ now holds. closed_on c.args.ignores now c.reading.kept c.reading.block c.take_line.new.block c.reading.lines c.take_line.new.lines c.in-Ok-Ended.number c.in-Ok-Ended.is_over _ _ (Ok (Goes c.close_block.new.kept c.close_block.new.block)) same
           (subst (λ (t : Result Step Stop). IfSome (left_of c.reading.lines (g.I.Inputs.rest c.reading.inputs)) (λ ys. StepGives c.args.ignores c.reading.kept c.take_line.new.block (block_resumed c.args.ignores now c.reading.block) c.reading.lines ys t c.take_line.new.lines (left_of c.take_line.new.lines (g.I.Inputs.rest c.take_line.new.inputs)))) is
           (c.take_line.ensures.gives c.args.ignores now holds))
-          (subst (λ (t : Result After Stop). ClosesAt c.args.ignores c.in-Ok-Ended.is_over (block_resumed c.args.ignores now c.take_line.new.block) c.in-Ok-Ended.number (turn_of c.close_block.new.kept c.close_block.new.block t)) turns (c.close_block.ensures.gives now holds)));
+          (subst (λ (t : Result Closed Stop). ClosesAt c.args.ignores c.in-Ok-Ended.is_over (block_resumed c.args.ignores now c.take_line.new.block) c.in-Ok-Ended.number (turn_of c.close_block.new.kept c.close_block.new.block t)) turns (c.close_block.ensures.gives now holds)));
     }
 
 pub returns-in-Ok-Ends-clause-gives : goal.returns-in-Ok-Ends-clause-gives
@@ -75,13 +75,13 @@ returns-in-Ok-Ends-clause-gives g c h stands =
     (λ now holds. closed_on c.args.ignores now c.reading.kept c.reading.block c.take_line.new.block c.reading.lines c.take_line.new.lines c.in-Ok-Ended.number c.in-Ok-Ended.is_over _ _ (Ok (Ends (ending_at c.close_block.new.kept c.in-Ok-Ends.end))) same
     (subst (λ (t : Result Step Stop). IfSome (left_of c.reading.lines (g.I.Inputs.rest c.reading.inputs)) (λ ys. StepGives c.args.ignores c.reading.kept c.take_line.new.block (block_resumed c.args.ignores now c.reading.block) c.reading.lines ys t c.take_line.new.lines (left_of c.take_line.new.lines (g.I.Inputs.rest c.take_line.new.inputs)))) is
     (c.take_line.ensures.gives c.args.ignores now holds))
-    (subst (λ (t : Result After Stop). ClosesAt c.args.ignores c.in-Ok-Ended.is_over (block_resumed c.args.ignores now c.take_line.new.block) c.in-Ok-Ended.number (turn_of c.close_block.new.kept c.close_block.new.block t)) turns (c.close_block.ensures.gives now holds)))
+    (subst (λ (t : Result Closed Stop). ClosesAt c.args.ignores c.in-Ok-Ended.is_over (block_resumed c.args.ignores now c.take_line.new.block) c.in-Ok-Ended.number (turn_of c.close_block.new.kept c.close_block.new.block t)) turns (c.close_block.ensures.gives now holds)))
 
 pub returns-in-Ok-Ends-clause-counts : goal.returns-in-Ok-Ends-clause-counts
 returns-in-Ok-Ends-clause-counts g c =
     let is : c.take_line.result ≡ Ok (Ended c.in-Ok-Ended.number c.in-Ok-Ended.is_over) = search rules in
     let turns : c.close_block.result ≡ Ok (after.Ends c.in-Ok-Ends.end) = search rules in
-    let shape : ShapeAt c.in-Ok-Ended.is_over (Ok (Ends (ending_at c.close_block.new.kept c.in-Ok-Ends.end))) = subst (λ (t : Result After Stop). ShapeAt c.in-Ok-Ended.is_over (turn_of c.close_block.new.kept c.close_block.new.block t)) turns c.close_block.ensures.shape in
+    let shape : ShapeAt c.in-Ok-Ended.is_over (Ok (Ends (ending_at c.close_block.new.kept c.in-Ok-Ends.end))) = subst (λ (t : Result Closed Stop). ShapeAt c.in-Ok-Ended.is_over (turn_of c.close_block.new.kept c.close_block.new.block t)) turns c.close_block.ensures.shape in
     block_counts c.args.lines.now c.reading.lines c.take_line.new.lines (ending_at c.close_block.new.kept c.in-Ok-Ends.end) c.reading.invariant.limits c.reading.invariant.grown
     (subst (λ (t : Result Step Stop). StepCounts c.reading.lines t c.take_line.new.lines) is c.take_line.ensures.counts (Ok (Ends (ending_at c.close_block.new.kept c.in-Ok-Ends.end))) shape)
 
@@ -95,7 +95,7 @@ returns-in-Err-close_block-clause-gives g c h stands =
     (λ now holds. closed_on c.args.ignores now c.reading.kept c.reading.block c.take_line.new.block c.reading.lines c.take_line.new.lines c.in-Ok-Ended.number c.in-Ok-Ended.is_over _ _ (Err c.in-Err-close_block.stop) same
     (subst (λ (t : Result Step Stop). IfSome (left_of c.reading.lines (g.I.Inputs.rest c.reading.inputs)) (λ ys. StepGives c.args.ignores c.reading.kept c.take_line.new.block (block_resumed c.args.ignores now c.reading.block) c.reading.lines ys t c.take_line.new.lines (left_of c.take_line.new.lines (g.I.Inputs.rest c.take_line.new.inputs)))) is
     (c.take_line.ensures.gives c.args.ignores now holds))
-    (subst (λ (t : Result After Stop). ClosesAt c.args.ignores c.in-Ok-Ended.is_over (block_resumed c.args.ignores now c.take_line.new.block) c.in-Ok-Ended.number (turn_of c.close_block.new.kept c.close_block.new.block t)) turns (c.close_block.ensures.gives now holds))))
+    (subst (λ (t : Result Closed Stop). ClosesAt c.args.ignores c.in-Ok-Ended.is_over (block_resumed c.args.ignores now c.take_line.new.block) c.in-Ok-Ended.number (turn_of c.close_block.new.kept c.close_block.new.block t)) turns (c.close_block.ensures.gives now holds))))
 
 pub returns-in-Err-clause-gives : goal.returns-in-Err-clause-gives
 returns-in-Err-clause-gives g c h stands =
@@ -108,4 +108,4 @@ returns-in-Err-clause-gives g c h stands =
 pub returns-in-Ok-Ends-clause-fits : goal.returns-in-Ok-Ends-clause-fits
 returns-in-Ok-Ends-clause-fits g c =
     let turns : c.close_block.result ≡ Ok (after.Ends c.in-Ok-Ends.end) = search rules in
-    subst (λ (t : Result After Stop). AfterFits c.close_block.new.kept.points t) turns c.close_block.ensures.fits
+    subst (λ (t : Result Closed Stop). AfterFits c.close_block.new.kept.points t) turns c.close_block.ensures.fits

@@ -8,7 +8,7 @@ use Rattle.dk_engine.specs.Feeding.{read_after}
 use Rattle.dk_engine.specs.Levels.{OneMore}
 use Rattle.dk_engine.specs.Narrow.{AreFoundBelow, StateStays, outcome}
 use Rattle.dk_engine.specs.Parts.{no_slot, slot_in}
-use Rattle.dk_engine.specs.declared.changes.Found.{Found}
+use Rattle.dk_engine.specs.declared.changes.SlotChanges.{SlotChanges}
 use Rattle.dk_engine.specs.declared.slot.Slot.{Slot}
 use Rattle.dk_engine.proofs.changes.add_change.Goals as goal
 
@@ -20,10 +20,10 @@ returns c =
     let place = c.args.place in
     let item : Slot = c.index-slots-place.result in
     let at : item ≡ slot_in slots place = c.index-slots-place.is ∙ get_or_default slots place item no_slot c.requires.within in
-    let found : Found = c.args.found.now in
+    let found : SlotChanges = c.args.found.now in
     let old = found.changes in
     let new = c.push_change.new.changes in
-    let more : Found = record { growths = found.growths; changes = new } in
+    let more : SlotChanges = record { growths = found.growths; changes = new } in
     let r = c.push_change.result in
     elim c.in_ok-state.state as (λ (s : Option State). IfNone s (StateStays made item) → IfSome s (λ t. t ≡ made item) → IfNone s (OnOk r (new ≡ old)) → IfSome s (λ t. OnOk r (new ≡ old ++ record { place = place; state = t } ∷ [])) → OnOk r (AreFoundBelow (place + 1) made slots more)) [
       | None ↦ λ stays t same u.

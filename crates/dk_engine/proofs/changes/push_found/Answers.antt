@@ -10,7 +10,7 @@ use Rattle.dk_engine.specs.Levels.{OneMore}
 use Rattle.dk_engine.specs.Narrow.{IsSeen}
 use Rattle.dk_engine.specs.Parts.{no_slot, slot_in}
 use Rattle.dk_engine.specs.declared.changes.Change.{Change}
-use Rattle.dk_engine.specs.declared.changes.Found.{Found}
+use Rattle.dk_engine.specs.declared.changes.SlotChanges.{SlotChanges}
 use Rattle.dk_engine.specs.declared.growing.Seen.{Seen}
 use Rattle.dk_engine.specs.declared.growing.Seen.TheVariants.{Grows, Stays}
 use Rattle.dk_engine.specs.declared.slot.Slot.{Slot}
@@ -41,8 +41,8 @@ returns-in-Grows c =
     let place = c.args.place in
     let growth = c.in-Grows.growth in
     let grown = at_place slots place c.index-slots-place.result c.requires.within c.index-slots-place.is (values_of c.args.sample.now) o.sample c.requires.sample (Grows growth) c.in-Grows.ensures in
-    let found : Found = c.args.found.now in
-    let more : Found = record { growths = c.push_growth.new.growths; changes = found.changes } in
+    let found : SlotChanges = c.args.found.now in
+    let more : SlotChanges = record { growths = c.push_growth.new.growths; changes = found.changes } in
     on_ok_weaker c.push_growth.result (λ (e : c.push_growth.new.growths ≡ found.growths ++ growth ∷ []).
     found_grown c.args.asked (read_after o.whole.kept o.sample) o.sample slots place c.requires.within c.requires.stays_open found c.requires.below growth grown more e refl) c.push_growth.ensures
 
@@ -53,7 +53,7 @@ returns-in-Neither c =
     let place = c.args.place in
     let slot = slot_in slots place in
     let change : Change = record { place = place; state = with_sample slot.row slot.leaders o.sample slot.state } in
-    let found : Found = c.args.found.now in
-    let more : Found = record { growths = found.growths; changes = c.push_joined.new.changes } in
+    let found : SlotChanges = c.args.found.now in
+    let more : SlotChanges = record { growths = found.growths; changes = c.push_joined.new.changes } in
     on_ok_weaker c.push_joined.result (λ (e : c.push_joined.new.changes ≡ found.changes ++ change ∷ []).
     found_joined c.args.asked (read_after o.whole.kept o.sample) o.sample slots place c.requires.within c.requires.stays_open found c.requires.below more refl e) c.push_joined.ensures

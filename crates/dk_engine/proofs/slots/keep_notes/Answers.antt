@@ -5,20 +5,20 @@ use Rattle.dk_engine.proofs.Passing.{changes_unpassed, growths_unpassed, none_pa
 use Rattle.dk_engine.specs.Idle.{AreSkips, is_passed}
 use Rattle.dk_engine.specs.Narrow.{with_change, with_growth}
 use Rattle.dk_engine.specs.declared.changes.Change.{Change}
-use Rattle.dk_engine.specs.declared.changes.Found.{Found}
+use Rattle.dk_engine.specs.declared.changes.SlotChanges.{SlotChanges}
 use Rattle.dk_engine.specs.declared.growing.Growth.{Growth}
 use Rattle.dk_engine.proofs.slots.keep_notes.Goals as goal
 
 pub returns-then-some_found_passed : goal.returns-then-some_found_passed
 returns-then-some_found_passed c slots are =
-    let found : Found = c.args.found.now in
+    let found : SlotChanges = c.args.found.now in
     let watch = c.none.result.watch in
     let changed = fold with_change (fold with_growth slots found.growths) found.changes in
     subst (AreSkips watch changed) (sym c.none.ensures) (none_passed watch changed)
 
 pub returns-else-some_found_passed : goal.returns-else-some_found_passed
 returns-else-some_found_passed c slots are =
-    let found : Found = c.args.found.now in
+    let found : SlotChanges = c.args.found.now in
     let skips = c.args.notes.now.skips.items in
     let watch = c.args.notes.now.watch in
     let same : c.as_slice.result.now ≡ skips = search rules in

@@ -4,7 +4,7 @@ use Rattle.std.proofs.lemmas.List.{take_all}
 use Rattle.std.proofs.lemmas.List.Folds.{list_any_more}
 use Rattle.dk_print.specs.Shown.{part_shown}
 use Rattle.dk_expr.specs.Naming.{has_length}
-use Rattle.dk_expr.specs.declared.found.Found.{Found}
+use Rattle.dk_expr.specs.declared.found.Parsed.{Parsed}
 use Rattle.dk_expr.proofs.Searching.{IsSearched, all_searched, none_searched, passed_searched, step_searched}
 use Rattle.dk_expr.proofs.steps.push_named.Goals as goal
 use Rattle.dk_expr.proofs.steps.push_named.Goals.{then-len-rest+in_ok-push_named_len, else-len-rest}
@@ -24,7 +24,7 @@ loop-len-preserved c =
     let after = take (i + 1) lengths in
     let len = get_or lengths i 0 in
     let more : (n : ℕ) → has_length after n ≡ (has_length before n || nat_eq len n) = λ n. list_any_more (λ m. nat_eq m n) lengths i 0 c.loop-len-test.true in
-    let Searched : List Found → Type 0 = λ l. IsSearched names c.args.role following c.args.found rest old l after in
+    let Searched : List Parsed → Type 0 = λ l. IsSearched names c.args.role following c.args.found rest old l after in
     elim c.if-len-rest.branch as (λ _. Searched c.if-len-rest.list) [
       | then-len-rest+in_ok-push_named_len w ↦
           subst Searched (sym w.list-is)

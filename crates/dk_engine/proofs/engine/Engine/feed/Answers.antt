@@ -9,7 +9,7 @@ use Rattle.dk_engine.specs.Exact.{AreSamples, IsKeptOf}
 use Rattle.dk_engine.specs.Feeding.{IsTurned, parts_after, read_after, unchanged_now}
 use Rattle.dk_engine.specs.Narrow.{AreFound, IsGrowth, IsShut, found_changes, outcome, slots_left}
 use Rattle.dk_engine.specs.Levels.{Whole}
-use Rattle.dk_engine.specs.declared.changes.Found.{Found}
+use Rattle.dk_engine.specs.declared.changes.SlotChanges.{SlotChanges}
 use Rattle.dk_engine.specs.declared.kept.Kept.{Kept}
 use Rattle.dk_engine.proofs.engine.Engine.feed.Goals as goal
 
@@ -18,7 +18,7 @@ abbrev With : Whole → List Value → Kept → Type 0
 With w sample after = (samples : List (List Value)) → AreSamples w.infos samples → IsKeptOf w.grammar w.infos samples w.kept → IsKeptOf w.grammar w.infos (samples ++ sample ∷ []) after
 
 -- growths let no rule begin to suppress a slot
-shut_with : (sample : List Value) (kept : Kept) (found : Found) → All (IsGrowth kept.slots) found.growths → IsShut sample kept found.changes → IsShut sample kept (found_changes kept.slots found)
+shut_with : (sample : List Value) (kept : Kept) (found : SlotChanges) → All (IsGrowth kept.slots) found.growths → IsShut sample kept found.changes → IsShut sample kept (found_changes kept.slots found)
 shut_with sample kept found are shut = record { seen = shut.seen; bounds = found_begin kept.slots found are ∙ shut.bounds }
 
 pub returns-in-Some-clause-stands : goal.returns-in-Some-clause-stands

@@ -14,7 +14,7 @@ use Rattle.dk_engine.specs.Feeding.{parts_after, read_after}
 use Rattle.dk_engine.specs.Narrow.{AreFound, IsChange, IsMergedStep, change_by, found_changes, loses_by, lost_places, outcome}
 use Rattle.dk_engine.specs.Levels.{Whole}
 use Rattle.dk_engine.specs.declared.changes.Change.{Change}
-use Rattle.dk_engine.specs.declared.changes.Found.{Found}
+use Rattle.dk_engine.specs.declared.changes.SlotChanges.{SlotChanges}
 use Rattle.dk_engine.specs.declared.kept.Kept.{Kept}
 use Rattle.dk_engine.specs.declared.slot.Slot.{Slot}
 use Rattle.dk_engine.proofs.engine.Engine.feed_anew.Goals as goal
@@ -24,10 +24,10 @@ lost_of : (slots : List Slot) (changes more : List Change) (lost : List ℕ) →
 lost_of slots changes more lost f g = g ∙ ap (lost_places slots) f
 
 -- the changes that are found beside growths
-of_found : (made : Slot → State) (slots : List Slot) (found : Found) → AreFound made slots found → All (IsChange made slots) found.changes
+of_found : (made : Slot → State) (slots : List Slot) (found : SlotChanges) → AreFound made slots found → All (IsChange made slots) found.changes
 of_found made slots found are = all_behind (IsChange made slots) (map (change_by slots) found.growths) found.changes are.changes.each
 
-lost_within : (made : Slot → State) (slots : List Slot) (found : Found) → AreFound made slots found → All (λ k. k < length slots) (lost_places slots found.changes)
+lost_within : (made : Slot → State) (slots : List Slot) (found : SlotChanges) → AreFound made slots found → All (λ k. k < length slots) (lost_places slots found.changes)
 lost_within made slots found are k d l =
     let changes = found.changes in
     let lost = lost_places slots changes in

@@ -4,7 +4,7 @@ use Rattle.dk_engine.proofs.Placed.{found_all, with_found}
 use Rattle.dk_engine.specs.Idle.{AreSkips}
 use Rattle.dk_engine.specs.Narrow.{with_change, with_growth}
 use Rattle.dk_engine.specs.declared.changes.Change.{Change}
-use Rattle.dk_engine.specs.declared.changes.Found.{Found}
+use Rattle.dk_engine.specs.declared.changes.SlotChanges.{SlotChanges}
 use Rattle.dk_engine.specs.declared.growing.Growth.{Growth}
 use Rattle.dk_engine.specs.declared.slot.Slot.{Slot}
 use Rattle.dk_engine.proofs.slots.Slots.change.Goals as goal
@@ -12,7 +12,7 @@ use Rattle.dk_engine.proofs.slots.Slots.change.Goals as goal
 pub invariant_of-self : goal.invariant_of-self
 invariant_of-self c =
     let s = c.self.inside in
-    let found : Found = c.args.found in
+    let found : SlotChanges = c.args.found in
     let long : length s.all.items ≡ s.all.len = ap (λ (ss : List Slot). length ss) (sym c.as_mut_slice-slots.ensures.value) ∙ c.as_mut_slice-slots.ensures.len in
     let growths : c.as_slice-2.result.now ≡ found.growths = search rules in
     let grown : c.grow_slots.new.slots ≡ fold with_growth s.all.items found.growths =
