@@ -3,7 +3,7 @@ use Rattle.std.proofs.Common.{◌≡◌, ◌∙◌, ◌++◌, [], All, Bool, Lis
 use Rattle.std.proofs.lemmas.List.{length-replicate}
 use Rattle.std.specs.Prelude.{OnOk, replicate}
 use Rattle.dk_decl.specs.Headers.{is_implicit, with_word}
-use Rattle.dk_engine.specs.Levels.{Whole}
+use Rattle.dk_engine.specs.Reading.Levels.{Whole}
 use Rattle.dk_hierarchy.specs.Samples.{OwnSamples, own_samples_of}
 use Rattle.dk_hierarchy.specs.Standing.{AreEnginesOf, EnginesStandFor}
 use Rattle.dk_points.specs.Table.{Point}

@@ -11,7 +11,7 @@ use Rattle.dk_base.specs.declared.values.Value.{Value}
 use Rattle.dk_classes.proofs.OwnLeaders.{leads_from_own}
 use Rattle.dk_engine.specs.Exact.{AreOfPoint, AreSamples, IsKeptOf, IsSlot}
 use Rattle.dk_engine.specs.declared.kept.Kept.{Kept}
-use Rattle.dk_engine.specs.declared.slot.Slot.{Slot}
+use Rattle.dk_engine.specs.declared.slots.slot.Slot.{Slot}
 use Rattle.dk_forms.specs.declared.states.State.TheVariants.{Broken}
 use Rattle.dk_instances.proofs.Whole.{are_tuples, fit_is_proper}
 use Rattle.dk_instances.specs.Fits.{fit, tuples_of}

@@ -8,7 +8,7 @@ use Rattle.dk_base.specs.declared.kinds.VarInfo.{VarInfo}
 use Rattle.dk_base.specs.declared.values.Value.{Value}
 use Rattle.dk_derive.specs.Laws.{base_of, var_kinds}
 use Rattle.dk_derive.specs.Values.{values_by_form}
-use Rattle.dk_engine.specs.Levels.{Whole}
+use Rattle.dk_engine.specs.Reading.Levels.{Whole}
 use Rattle.dk_hierarchy.specs.Samples.{OwnSamples, all_vars_of, own_samples_of}
 use Rattle.dk_hierarchy.specs.Standing.{AreEnginesOf, EngineStandsFor, EnginesStandFor}
 use Rattle.dk_lines.specs.Reading.{Reading}

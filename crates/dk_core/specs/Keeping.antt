@@ -1,6 +1,6 @@
 -- What is kept from block to block, as contracts see it, and what always holds of it.
 use Rattle.std.specs.Prelude.{◌≡◌, ℕ, All, List, map}
-use Rattle.dk_engine.specs.Levels.{Whole}
+use Rattle.dk_engine.specs.Reading.Levels.{Whole}
 use Rattle.dk_hierarchy.specs.Standing.{AreEnginesOf}
 use Rattle.dk_state.specs.Saved.{saved_text}
 use Rattle.dk_template.specs.declared.grammar.Grammar.{Grammar}

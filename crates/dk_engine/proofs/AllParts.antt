@@ -10,7 +10,7 @@ use Rattle.dk_engine.proofs.OneMore.{read_after_is_fit}
 use Rattle.dk_engine.proofs.Readings.{reading_is_fit}
 use Rattle.dk_engine.proofs.Standing.{IsOld, all_front, old_each, untouched_by_old}
 use Rattle.dk_engine.proofs.Unchanging.{first_sample_has_no_slots}
-use Rattle.dk_engine.specs.Step.{slot_vars}
+use Rattle.dk_engine.specs.Feeding.Step.{slot_vars}
 use Rattle.dk_engine.specs.StepLaws.{FedPartsAreKept, FirstPartsAreKept, FreedPremisesAreUntouched, PremisesAskTheirSlots, ReadingTells}
 use Rattle.dk_instances.specs.Laws.{IsSample}
 

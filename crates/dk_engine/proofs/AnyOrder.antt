@@ -26,7 +26,7 @@ use Rattle.dk_template.specs.declared.grammar.RowId.{RowId}
 use Rattle.dk_engine.proofs.Readings.{row_is}
 use Rattle.dk_engine.specs.Exact.{IsSlot}
 use Rattle.dk_engine.specs.Laws.{OrderDoesNotMatter}
-use Rattle.dk_engine.specs.declared.slot.Slot.{Slot}
+use Rattle.dk_engine.specs.declared.slots.slot.Slot.{Slot}
 
 -- ---- what is kept of samples is kept of them in another order
 module _ (samples others : List (List Value)) (same : IsPermutation samples others) where

@@ -10,10 +10,10 @@ use Rattle.dk_forms.specs.declared.states.State.TheVariants.{Broken}
 use Rattle.dk_engine.proofs.Readings.{broken_is}
 use Rattle.dk_engine.proofs.Standing.{none_passes}
 use Rattle.dk_engine.specs.Feeding.{is_broken}
-use Rattle.dk_engine.specs.Narrow.{AreChanges, IsChange, slots_left, with_change, with_state}
-use Rattle.dk_engine.specs.Parts.{no_slot, slot_in}
-use Rattle.dk_engine.specs.declared.changes.Change.{Change}
-use Rattle.dk_engine.specs.declared.slot.Slot.{Slot}
+use Rattle.dk_engine.specs.Feeding.Narrow.{AreChanges, IsChange, slots_left, with_change, with_state}
+use Rattle.dk_engine.specs.Reading.Parts.{no_slot, slot_in}
+use Rattle.dk_engine.specs.declared.feed.changes.Change.{Change}
+use Rattle.dk_engine.specs.declared.slots.slot.Slot.{Slot}
 
 pub changes_keep_length : (changes : List Change) (cur : List Slot) → length (fold with_change cur changes) ≡ length cur
 changes_keep_length [] cur = refl

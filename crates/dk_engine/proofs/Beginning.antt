@@ -15,7 +15,7 @@ use Rattle.dk_samples.specs.Leaders.{VarsAscend}
 use Rattle.dk_template.specs.declared.grammar.Grammar.{Grammar}
 use Rattle.dk_engine.specs.Exact.{IsKeptOf}
 use Rattle.dk_engine.specs.declared.kept.Kept.{Kept}
-use Rattle.dk_engine.specs.declared.slot.Slot.{Slot}
+use Rattle.dk_engine.specs.declared.slots.slot.Slot.{Slot}
 
 abbrev parts : List VarId → Entries → List Held → List Slot → Kept
 parts leaders known held slots = record { samples = 0; leaders = leaders; known = known; held = held; slots = slots }

@@ -32,7 +32,7 @@ use Rattle.dk_template.specs.declared.answers.Premise.TheVariants.{Holds, LeastA
 use Rattle.dk_template.specs.declared.grammar.RowId.{RowId}
 use Rattle.std.proofs.lemmas.Bool.{and_parts}
 use Rattle.dk_engine.proofs.Pushing.{AreApart, apart_by_tuples, tuples_push}
-use Rattle.dk_engine.specs.Step.{is_of_elements}
+use Rattle.dk_engine.specs.Feeding.Step.{is_of_elements}
 
 -- ---- what a join tells of its first state
 plain_before : (b : Bool) (s : State) → fits (plain_join (cond b state.Holds state.Broken) s) ≡ true → fits (cond b state.Holds state.Broken) ≡ true

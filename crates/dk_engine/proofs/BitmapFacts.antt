@@ -14,8 +14,8 @@ use Rattle.dk_forms.specs.declared.states.State.{State}
 use Rattle.dk_forms.specs.declared.states.State.TheVariants.{Empty, Holds}
 use Rattle.dk_suppress.specs.Soundness.{holds_of}
 use Rattle.dk_template.specs.declared.templates.StateForm.{StateForm}
-use Rattle.dk_engine.specs.Bitmaps.{IsBitmap, are_together, block_at, digits}
-use Rattle.dk_engine.specs.Restored.{IsStateOf}
+use Rattle.dk_engine.specs.Saved.Bitmaps.{IsBitmap, are_together, block_at, digits}
+use Rattle.dk_engine.specs.Saved.Restored.{IsStateOf}
 
 -- ---- digits
 -- the digits after those of a number

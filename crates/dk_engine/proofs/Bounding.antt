@@ -23,9 +23,9 @@ use Rattle.dk_template.specs.Templates.{form_of, rows}
 use Rattle.dk_template.specs.declared.grammar.RowId.{RowId}
 use Rattle.dk_template.specs.declared.templates.StateForm.TheVariants as form
 use Rattle.dk_engine.proofs.OneTuple.{row_by, slot_by, with_tuple}
-use Rattle.dk_engine.specs.Bounding.{compares, is_holds, keeps_greatest, keeps_least}
 use Rattle.dk_engine.specs.Feeding.{with_sample}
-use Rattle.dk_engine.specs.declared.slot.Slot.{Slot}
+use Rattle.dk_engine.specs.Idle.Bounding.{compares, is_holds, keeps_greatest, keeps_least}
+use Rattle.dk_engine.specs.declared.slots.slot.Slot.{Slot}
 
 -- ---- samples in which a variable is missing
 pub of_missing : (row : RowId) (vars : List VarId) (sample : List Value) (s : State) → is_whole (tuple_in vars sample) ≡ false → with_sample row vars sample s ≡ s

@@ -13,10 +13,10 @@ use Rattle.dk_template.specs.Premises.{at_role, roles_read}
 use Rattle.dk_template.specs.declared.answers.Premise.{Premise}
 use Rattle.dk_engine.proofs.PremiseSlots.{roles_read_the_slot}
 use Rattle.dk_engine.proofs.Standing.{none_passes}
-use Rattle.dk_engine.specs.Choices.{freed_choices, other_leaders, touched_choices, touching_leaders, tuples_from}
+use Rattle.dk_engine.specs.Sweeps.Choices.{freed_choices, other_leaders, touched_choices, touching_leaders, tuples_from}
 use Rattle.dk_engine.specs.Exact.{Lead}
-use Rattle.dk_engine.specs.Step.{is_touched, slot_vars, touches}
-use Rattle.dk_engine.specs.declared.now.Now.{Now}
+use Rattle.dk_engine.specs.Feeding.Step.{is_touched, slot_vars, touches}
+use Rattle.dk_engine.specs.declared.feed.now.Now.{Now}
 use Rattle.dk_engine.specs.StepLaws.{FreedTuplesAreChosen, TouchedTuplesAreChosen}
 
 -- ---- one role more

@@ -8,7 +8,7 @@ use Rattle.dk_forms.specs.declared.states.State.{State}
 use Rattle.dk_suppress.specs.Rules.{Rule, has_rule, is_suppressed, rules}
 use Rattle.dk_template.specs.Premises.{premise_fits}
 use Rattle.dk_template.specs.declared.grammar.RowId.{RowId}
-use Rattle.dk_engine.specs.Step.{asks_elements}
+use Rattle.dk_engine.specs.Feeding.Step.{asks_elements}
 
 abbrev conclusion : Rule → ℕ
 conclusion r = r.0.0

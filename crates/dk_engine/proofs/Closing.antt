@@ -43,10 +43,10 @@ use Rattle.dk_engine.proofs.Standing.{leads_on}
 use Rattle.dk_engine.proofs.Stepping.{had_slot}
 use Rattle.dk_engine.specs.Exact.{ArePatterns, Lead}
 use Rattle.dk_engine.specs.Feeding.{with_sample}
-use Rattle.dk_engine.specs.Parts.{all_known, slot_at}
+use Rattle.dk_engine.specs.Reading.Parts.{all_known, slot_at}
 use Rattle.dk_engine.specs.declared.kept.Kept.{Kept}
-use Rattle.dk_engine.specs.Step.{IsPlaced, IsPremiseOf, IsStep, is_begun, is_empty_state, is_of_elements, slot_vars}
-use Rattle.dk_engine.specs.declared.now.Now.{Now}
+use Rattle.dk_engine.specs.Feeding.Step.{IsPlaced, IsPremiseOf, IsStep, is_begun, is_empty_state, is_of_elements, slot_vars}
+use Rattle.dk_engine.specs.declared.feed.now.Now.{Now}
 use Rattle.dk_engine.specs.StepLaws.{FewSlotsClose}
 
 -- ---- no rule concludes the least or the greatest element

@@ -27,9 +27,9 @@ use Rattle.dk_engine.proofs.OneTuple.{slot_by}
 use Rattle.dk_engine.proofs.Stretches.{before_of, planar_sample, within_stretch}
 use Rattle.dk_engine.specs.Feeding.{with_sample}
 use Rattle.dk_engine.specs.Idle.{IsIdle, are_within, is_above, is_below, is_between, is_driven, is_driven_stretch, is_from, is_near_number, is_numeric, is_to}
-use Rattle.dk_engine.specs.declared.facts.Range.{Range}
 use Rattle.dk_engine.specs.declared.idle.Watch.{Watch}
-use Rattle.dk_engine.specs.declared.slot.Slot.{Slot}
+use Rattle.dk_engine.specs.declared.idle.facts.Range.{Range}
+use Rattle.dk_engine.specs.declared.slots.slot.Slot.{Slot}
 
 -- ---- points
 -- a coordinate between the ends of a stretch, which has moved as far as the driving one, s of t, or never moves

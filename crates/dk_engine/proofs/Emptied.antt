@@ -12,12 +12,12 @@ use Rattle.dk_presence.specs.declared.held.Held.{Held}
 use Rattle.dk_template.specs.Proper.{IsProper}
 use Rattle.dk_template.specs.Templates.{form_of}
 use Rattle.dk_template.specs.declared.grammar.Grammar.{Grammar}
-use Rattle.dk_engine.specs.Conditions.{CanBeFed}
 use Rattle.dk_engine.specs.Feeding.{IsTurned}
-use Rattle.dk_engine.specs.Step.{IsPlaced}
+use Rattle.dk_engine.specs.Feeding.Step.{IsPlaced}
+use Rattle.dk_engine.specs.Saved.Conditions.{CanBeFed}
+use Rattle.dk_engine.specs.declared.feed.now.Now.{Now}
 use Rattle.dk_engine.specs.declared.kept.Kept.{Kept}
-use Rattle.dk_engine.specs.declared.now.Now.{Now}
-use Rattle.dk_engine.specs.declared.slot.Slot.{Slot}
+use Rattle.dk_engine.specs.declared.slots.slot.Slot.{Slot}
 
 abbrev pub parts : List VarId → Entries → ℕ → List Held → List Slot → Kept
 parts leaders known n held slots = record { samples = n; leaders = leaders; known = known; held = held; slots = slots }

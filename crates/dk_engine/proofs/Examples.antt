@@ -14,7 +14,7 @@ use Rattle.dk_suppress.specs.Soundness.{fit_of}
 use Rattle.dk_template.specs.Templates.{rows}
 use Rattle.dk_template.specs.declared.answers.Premise.{Premise}
 use Rattle.dk_template.specs.declared.grammar.RowId.{RowId}
-use Rattle.dk_engine.specs.Step.{asks_elements, is_lost, slot_vars}
+use Rattle.dk_engine.specs.Feeding.Step.{asks_elements, is_lost, slot_vars}
 
 abbrev x : VarId
 x = record { 0 = 0 }

@@ -29,14 +29,14 @@ use Rattle.dk_engine.proofs.PartsOfSamples.{parts_of_kept}
 use Rattle.dk_engine.proofs.SlotLists.{slots_exact}
 use Rattle.dk_engine.proofs.Unchanging.{first_sample_has_no_slots, unchanged_slots_are_exact}
 use Rattle.dk_engine.proofs.Turned.{differ, parts_can_be_fed, unheld}
-use Rattle.dk_engine.specs.Conditions.{CanBeFed}
+use Rattle.dk_engine.specs.Saved.Conditions.{CanBeFed}
 use Rattle.dk_engine.specs.Exact.{AreOfPoint, ArePatterns, AreSamples, AreSlots, IsKeptOf}
 use Rattle.dk_engine.specs.Feeding.{IsTurned, parts_after, read_after, slots_of, unchanged_now}
 use Rattle.dk_engine.specs.Laws.{FedPartsAreExact}
 use Rattle.dk_engine.specs.declared.kept.Kept.{Kept}
-use Rattle.dk_engine.specs.declared.now.Now.{Now}
-use Rattle.dk_engine.specs.declared.slot.Slot.{Slot}
-use Rattle.dk_engine.specs.Step.{ChangesNothing, IsNow, IsStep}
+use Rattle.dk_engine.specs.declared.feed.now.Now.{Now}
+use Rattle.dk_engine.specs.declared.slots.slot.Slot.{Slot}
+use Rattle.dk_engine.specs.Feeding.Step.{ChangesNothing, IsNow, IsStep}
 
 no_samples : (ss : List (List Value)) → length ss ≡ 0 → ss ≡ []
 no_samples [] e = refl

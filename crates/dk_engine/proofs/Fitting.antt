@@ -15,8 +15,8 @@ use Rattle.dk_suppress.specs.Rules.{is_suppressed}
 use Rattle.dk_engine.proofs.Slotless.{not_considered}
 use Rattle.dk_engine.proofs.Spread.{of_one, of_three, of_two}
 use Rattle.dk_engine.specs.Feeding.{is_broken, slots_of_row}
-use Rattle.dk_engine.specs.Parts.{all_known}
-use Rattle.dk_engine.specs.Suited.{suited_vars}
+use Rattle.dk_engine.specs.Reading.Parts.{all_known}
+use Rattle.dk_engine.specs.Sweeps.Suited.{suited_vars}
 use Rattle.dk_engine.specs.Sweeps.{behind, considered, firsts, pairs, seconds, thirds, triples}
 
 -- ---- lists of slots, element by element

@@ -25,13 +25,13 @@ use Rattle.dk_engine.proofs.Standing.{IsOld, all_front, old_each}
 use Rattle.dk_engine.proofs.Stepping.{had_slot, loses_so_varies, placed_before, varies_before, written_now}
 use Rattle.dk_engine.specs.Exact.{IsSlot}
 use Rattle.dk_engine.specs.Feeding.{with_sample}
-use Rattle.dk_engine.specs.Parts.{slot_at}
-use Rattle.dk_engine.specs.Reached.{has_row, rows_reached}
-use Rattle.dk_engine.specs.Step.{IsFreedBy, IsPlaced, IsPremiseOf, IsStep, is_touched, slot_vars}
+use Rattle.dk_engine.specs.Reading.Parts.{slot_at}
+use Rattle.dk_engine.specs.Sweeps.Reached.{has_row, rows_reached}
+use Rattle.dk_engine.specs.Feeding.Step.{IsFreedBy, IsPlaced, IsPremiseOf, IsStep, is_touched, slot_vars}
 use Rattle.dk_engine.specs.StepLaws.{OpenedTuplesAreFreed}
 use Rattle.dk_engine.specs.declared.kept.Kept.{Kept}
-use Rattle.dk_engine.specs.declared.now.Now.{Now}
-use Rattle.dk_engine.specs.declared.slot.Slot.{Slot}
+use Rattle.dk_engine.specs.declared.feed.now.Now.{Now}
+use Rattle.dk_engine.specs.declared.slots.slot.Slot.{Slot}
 
 module _ {grammar : Grammar} {infos : List VarInfo} {samples : List (List Value)} {sample : List Value} {kept : Kept} {now : Now} (step : IsStep grammar infos samples sample kept now) where
   abbrev after : List (List Value)

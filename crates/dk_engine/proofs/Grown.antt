@@ -18,13 +18,13 @@ use Rattle.dk_engine.proofs.Losing.{asked_lose}
 use Rattle.dk_engine.proofs.Narrowing.{change_more, no_changes, stay_more, stays_more}
 use Rattle.dk_engine.proofs.Running.{no_and, outcome_of_shut}
 use Rattle.dk_engine.specs.Feeding.{is_broken, with_sample}
-use Rattle.dk_engine.specs.Narrow.{AreChangesBelow, AreFoundBelow, IsChange, IsGrown, IsGrowth, StateStays, StayBetween, change_by, found_changes, grown_state, loses, loses_by, lost_places, may_begin, outcome, prolonged, with_change, with_growth, with_state}
-use Rattle.dk_engine.specs.Parts.{no_slot, slot_in}
-use Rattle.dk_engine.specs.Step.{Answer, can_close, is_empty_state}
-use Rattle.dk_engine.specs.declared.changes.Change.{Change}
-use Rattle.dk_engine.specs.declared.changes.SlotChanges.{SlotChanges}
-use Rattle.dk_engine.specs.declared.growing.Growth.{Growth}
-use Rattle.dk_engine.specs.declared.slot.Slot.{Slot}
+use Rattle.dk_engine.specs.Feeding.Narrow.{AreChangesBelow, AreFoundBelow, IsChange, IsGrown, IsGrowth, StateStays, StayBetween, change_by, found_changes, grown_state, loses, loses_by, lost_places, may_begin, outcome, prolonged, with_change, with_growth, with_state}
+use Rattle.dk_engine.specs.Feeding.Step.{Answer, can_close, is_empty_state}
+use Rattle.dk_engine.specs.Reading.Parts.{no_slot, slot_in}
+use Rattle.dk_engine.specs.declared.feed.changes.Change.{Change}
+use Rattle.dk_engine.specs.declared.feed.changes.SlotChanges.{SlotChanges}
+use Rattle.dk_engine.specs.declared.feed.growing.Growth.{Growth}
+use Rattle.dk_engine.specs.declared.slots.slot.Slot.{Slot}
 
 -- ---- states
 prolonged_unbroken : (s : State) (x y z : ℤ) → s ≢ Broken → is_broken (prolonged s x y z) ≡ false

@@ -22,13 +22,13 @@ use Rattle.dk_engine.proofs.Bounding.{compared_slot, compared_so, greatest_kept,
 use Rattle.dk_engine.proofs.Ascending.{ordered_so}
 use Rattle.dk_engine.proofs.OneTuple.{row_by, with_tuple}
 use Rattle.dk_engine.proofs.Raising.{upper_slot}
-use Rattle.dk_engine.specs.Bounding.{compares, keeps_greatest, keeps_least}
+use Rattle.dk_engine.specs.Idle.Bounding.{compares, keeps_greatest, keeps_least}
 use Rattle.dk_engine.specs.Feeding.{with_sample}
 use Rattle.dk_engine.specs.Idle.{IsIdle, are_in_order, are_near, are_rising, are_so, are_within, compares_first, compares_values, is_between, is_compared, is_from, is_idle_greatest, is_idle_least, is_known, is_listed, is_near, is_near_number, is_numeric, is_one, is_own, is_so, is_to, is_told, is_within, meets}
-use Rattle.dk_engine.specs.declared.facts.Compared.{Compared}
-use Rattle.dk_engine.specs.declared.facts.Range.{Range}
+use Rattle.dk_engine.specs.declared.idle.facts.Compared.{Compared}
+use Rattle.dk_engine.specs.declared.idle.facts.Range.{Range}
 use Rattle.dk_engine.specs.declared.idle.Watch.{Watch}
-use Rattle.dk_engine.specs.declared.slot.Slot.{Slot}
+use Rattle.dk_engine.specs.declared.slots.slot.Slot.{Slot}
 
 -- ---- a sample of which all facts are true
 module _ (watch : Watch) (sample : List Value) (meeting : meets watch sample ≡ true) where

@@ -21,9 +21,9 @@ use Rattle.dk_template.specs.Premises.{AreThere}
 use Rattle.dk_template.specs.Templates.{is_base, kind_of, roles_of, template_of}
 use Rattle.dk_template.specs.declared.grammar.RowId.{RowId}
 use Rattle.dk_template.specs.declared.templates.Role.{Role}
-use Rattle.dk_engine.specs.Conditions.{AreLeadersOf}
 use Rattle.dk_engine.specs.Exact.{AreOfPoint, Lead}
-use Rattle.dk_engine.specs.Parts.{leader_of, leaders_of}
+use Rattle.dk_engine.specs.Reading.Parts.{leader_of, leaders_of}
+use Rattle.dk_engine.specs.Saved.Conditions.{AreLeadersOf}
 
 -- ---- a role that a variable suits
 -- the variable is there

@@ -18,13 +18,13 @@ use Rattle.dk_template.specs.declared.grammar.Grammar.{Grammar}
 use Rattle.dk_engine.proofs.ReadProper.{with_sample_proper}
 use Rattle.dk_engine.proofs.Readings.{broken_is, not_broken, row_is}
 use Rattle.dk_engine.proofs.Unchanging.{same_slot}
-use Rattle.dk_engine.specs.Conditions.{AreFormed, CanBeFed}
 use Rattle.dk_engine.specs.Exact.{SlotBefore}
 use Rattle.dk_engine.specs.Feeding.{is_broken, with_sample}
-use Rattle.dk_engine.specs.Narrow.{AreLeft, closes, outcome, slots_left, with_state}
-use Rattle.dk_engine.specs.Step.{Answer, IsLeftOf, IsPlaced, can_close}
+use Rattle.dk_engine.specs.Feeding.Narrow.{AreLeft, closes, outcome, slots_left, with_state}
+use Rattle.dk_engine.specs.Feeding.Step.{Answer, IsLeftOf, IsPlaced, can_close}
+use Rattle.dk_engine.specs.Saved.Conditions.{AreFormed, CanBeFed}
 use Rattle.dk_engine.specs.declared.kept.Kept.{Kept}
-use Rattle.dk_engine.specs.declared.slot.Slot.{Slot}
+use Rattle.dk_engine.specs.declared.slots.slot.Slot.{Slot}
 
 -- ---- the slots that are left, whatever is made of them
 module _ (made : Slot → State) (slots : List Slot) where

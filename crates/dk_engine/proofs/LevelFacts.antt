@@ -15,8 +15,8 @@ use Rattle.dk_template.specs.declared.exchange.Exchange.TheVariants.{First, Last
 use Rattle.dk_template.specs.declared.grammar.RowId.{RowId}
 use Rattle.dk_template.specs.declared.templates.Symmetry.{Symmetry}
 use Rattle.dk_template.specs.declared.templates.Symmetry.TheVariants as symmetry
-use Rattle.dk_engine.specs.Parts.{all_known, known_tuple, leaders_of, slot_at}
 use Rattle.dk_engine.specs.Reading.{read_leaders, read_slot, read_written, state_of_one, state_read}
+use Rattle.dk_engine.specs.Reading.Parts.{all_known, known_tuple, leaders_of, slot_at}
 use Rattle.dk_engine.specs.declared.kept.Kept.{Kept}
 
 -- ---- a level

@@ -11,7 +11,7 @@ use Rattle.dk_template.specs.Premises.{is_greatest_to, is_least_from, is_only, s
 use Rattle.dk_template.specs.declared.answers.Premise.{Premise}
 use Rattle.dk_template.specs.declared.answers.Premise.TheVariants.{Holds, LeastAtLeast, GreatestAtMost, Only}
 use Rattle.dk_template.specs.declared.grammar.RowId.{RowId}
-use Rattle.dk_engine.specs.Narrow.{loses}
+use Rattle.dk_engine.specs.Feeding.Narrow.{loses}
 
 -- premises that ask the same
 suffice_alike : (s : State) (p q : Premise) → ask_alike p q ≡ true → suffices p s ≡ suffices q s

@@ -26,7 +26,7 @@ use Rattle.dk_engine.proofs.PremiseSlots.{asked_all}
 use Rattle.dk_engine.proofs.BegunPremises.{begins_apart}
 use Rattle.dk_engine.proofs.Pushing.{AreApart, apart_is_empty, present_by_whole, tuples_push, whole_by_present}
 use Rattle.dk_engine.proofs.Standing.{none_passes}
-use Rattle.dk_engine.specs.Step.{IsPremiseOf, asks_elements, is_begun, is_lost, is_of_elements}
+use Rattle.dk_engine.specs.Feeding.Step.{IsPremiseOf, asks_elements, is_begun, is_lost, is_of_elements}
 
 -- ---- a premise on which two answers differ
 one_fails : {X : Type 0} (test : X → Bool) (xs : List X) → list_all test xs ≡ false → (k : ℕ) × (x : X) × (k < length xs) × (get_or xs k x ≡ x) × (test x ≡ false)

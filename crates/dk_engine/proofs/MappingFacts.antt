@@ -12,7 +12,7 @@ use Rattle.dk_base.specs.declared.kinds.VarId.{VarId}
 use Rattle.dk_presence.specs.Patterns.{has}
 use Rattle.dk_presence.specs.declared.held.Held.{Held}
 use Rattle.dk_samples.specs.Leaders.{VarsAscend}
-use Rattle.dk_engine.specs.Bitmaps.{AreBegun, AreBitmaps, AreWords, IsBitmap, IsPlaceOf, IsRowOf, block_at, digits}
+use Rattle.dk_engine.specs.Saved.Bitmaps.{AreBegun, AreBitmaps, AreWords, IsBitmap, IsPlaceOf, IsRowOf, block_at, digits}
 use Rattle.dk_engine.proofs.BitmapFacts.{digits_below}
 
 none : VarId

@@ -26,7 +26,7 @@ use Rattle.dk_template.specs.Templates.{IsRow, form_of, role_kinds, rows}
 use Rattle.dk_template.specs.declared.grammar.RowId.{RowId}
 use Rattle.dk_template.specs.declared.templates.StateForm.{StateForm}
 use Rattle.dk_template.specs.declared.templates.StateForm.TheVariants as form
-use Rattle.dk_engine.specs.Memory.{same_texts_row, wants_memory}
+use Rattle.dk_engine.specs.Reading.Memory.{same_texts_row, wants_memory}
 
 -- ---- the table
 abbrev is_texts : StateForm → Bool

@@ -16,14 +16,14 @@ use Rattle.dk_engine.proofs.Fed.{is_step, kept_now}
 use Rattle.dk_engine.proofs.Stepping.{stepped_slots_are_exact}
 use Rattle.dk_engine.specs.Exact.{AreOfPoint, AreSamples, IsKeptOf}
 use Rattle.dk_engine.specs.Feeding.{IsTurned, parts_after, read_after}
-use Rattle.dk_engine.specs.Narrow.{AreChangesBelow, AreLeft, AreMerged, AreOpened, IsChange, StateStays, StayBetween}
-use Rattle.dk_engine.specs.Parts.{slot_in}
+use Rattle.dk_engine.specs.Feeding.Narrow.{AreChangesBelow, AreLeft, AreMerged, AreOpened, IsChange, StateStays, StayBetween}
+use Rattle.dk_engine.specs.Feeding.Step.{Answer, AreCandidates, IsStepped, IsSteppedSlot}
 use Rattle.dk_engine.specs.Reading.{state_read}
-use Rattle.dk_engine.specs.Step.{Answer, AreCandidates, IsStepped, IsSteppedSlot}
-use Rattle.dk_engine.specs.declared.changes.Change.{Change}
+use Rattle.dk_engine.specs.Reading.Parts.{slot_in}
+use Rattle.dk_engine.specs.declared.feed.changes.Change.{Change}
+use Rattle.dk_engine.specs.declared.feed.now.Now.{Now}
 use Rattle.dk_engine.specs.declared.kept.Kept.{Kept}
-use Rattle.dk_engine.specs.declared.now.Now.{Now}
-use Rattle.dk_engine.specs.declared.slot.Slot.{Slot}
+use Rattle.dk_engine.specs.declared.slots.slot.Slot.{Slot}
 
 -- ---- slots
 pub merged_are_stepped : (after : Answer) (sample : List Value) (slots : List Slot) (known : Entries) (candidates : List (RowId × List VarId)) (left opened merged : List Slot)

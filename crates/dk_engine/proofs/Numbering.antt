@@ -15,8 +15,8 @@ use Rattle.dk_instances.proofs.Members.{contained, is_in}
 use Rattle.dk_instances.specs.Instances.{Precedes}
 use Rattle.dk_template.specs.Templates.{arity_of}
 use Rattle.dk_engine.specs.Exact.{SlotBefore}
-use Rattle.dk_engine.specs.Merged.{AreTogether, HasNumber, slot_number, var_bound, var_in}
-use Rattle.dk_engine.specs.declared.slot.Slot.{Slot}
+use Rattle.dk_engine.specs.Feeding.Merged.{AreTogether, HasNumber, slot_number, var_bound, var_in}
+use Rattle.dk_engine.specs.declared.slots.slot.Slot.{Slot}
 
 -- ---- numbers of two digits
 digit_below : (a b x y : ℕ) → x < var_bound → y < var_bound → a * var_bound + x < b * var_bound + y → (a < b) ⊎ ((a ≡ b) × (x < y))

@@ -11,7 +11,7 @@ use Rattle.dk_template.specs.Templates.{form_of}
 use Rattle.dk_template.specs.declared.grammar.RowId.{RowId}
 use Rattle.dk_template.specs.declared.templates.StateForm.{StateForm}
 use Rattle.dk_engine.specs.Feeding.{with_sample}
-use Rattle.dk_engine.specs.declared.slot.Slot.{Slot}
+use Rattle.dk_engine.specs.declared.slots.slot.Slot.{Slot}
 
 -- by the state of the one tuple
 pub with_tuple : (row : RowId) (f : StateForm) (vars : List VarId) (sample : List Value) (t : List Value) (point : State) → form_of row ≡ f → tuple_in vars sample ≡ t

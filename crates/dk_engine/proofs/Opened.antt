@@ -44,20 +44,20 @@ use Rattle.dk_engine.proofs.Stepping.{left_is_slot, long_more, slot_is_left}
 use Rattle.dk_engine.proofs.Swept.{IsAtRole, IsGiven, in_with_both, in_with_one, of_with_both, of_with_one}
 use Rattle.dk_engine.proofs.Turned.{leaders_now, still}
 use Rattle.dk_engine.proofs.Unchanging.{same_slot}
-use Rattle.dk_engine.specs.Choices.{other_leaders, touching_leaders}
-use Rattle.dk_engine.specs.Conditions.{AreFormed, CanBeFed}
+use Rattle.dk_engine.specs.Sweeps.Choices.{other_leaders, touching_leaders}
+use Rattle.dk_engine.specs.Saved.Conditions.{AreFormed, CanBeFed}
 use Rattle.dk_engine.specs.Exact.{AreOfPoint, AreSamples, AreSlots, IsKeptOf, IsSlot, Lead}
 use Rattle.dk_engine.specs.Feeding.{IsTurned, has_slot, read_after}
-use Rattle.dk_engine.specs.Merged.{AreTogether, HasNumber}
-use Rattle.dk_engine.specs.Narrow.{AreChanges, AreLeft, IsChange, IsMergedStep, freed_by_all, slots_left, loses_by, lost_places, opened_slots, outcome}
-use Rattle.dk_engine.specs.Parts.{no_slot, slot_at, slot_in}
-use Rattle.dk_engine.specs.Reached.{rows_reached}
-use Rattle.dk_engine.specs.Step.{Answer, IsFreedBy, IsPlaced, IsStep, Tells, is_touched, touches}
+use Rattle.dk_engine.specs.Feeding.Merged.{AreTogether, HasNumber}
+use Rattle.dk_engine.specs.Feeding.Narrow.{AreChanges, AreLeft, IsChange, IsMergedStep, freed_by_all, slots_left, loses_by, lost_places, opened_slots, outcome}
+use Rattle.dk_engine.specs.Reading.Parts.{no_slot, slot_at, slot_in}
+use Rattle.dk_engine.specs.Sweeps.Reached.{rows_reached}
+use Rattle.dk_engine.specs.Feeding.Step.{Answer, IsFreedBy, IsPlaced, IsStep, Tells, is_touched, touches}
 use Rattle.dk_engine.specs.Sweeps.{freed_slots, touched_slots, with_both, with_one}
-use Rattle.dk_engine.specs.declared.changes.Change.{Change}
+use Rattle.dk_engine.specs.declared.feed.changes.Change.{Change}
 use Rattle.dk_engine.specs.declared.kept.Kept.{Kept}
-use Rattle.dk_engine.specs.declared.now.Now.{Now}
-use Rattle.dk_engine.specs.declared.slot.Slot.{Slot}
+use Rattle.dk_engine.specs.declared.feed.now.Now.{Now}
+use Rattle.dk_engine.specs.declared.slots.slot.Slot.{Slot}
 
 -- ---- what is opened is a slot by the answers
 module _ (g : Grammar) (infos : List VarInfo) (after : Answer) (now : Now) where

@@ -4,8 +4,8 @@ use Rattle.std.proofs.Common.{arith, get_or, inl, inr, subst}
 use Rattle.std.proofs.lemmas.Bool.{cases_lt}
 use Rattle.dk_engine.proofs.SlotPlaces.{before_true, earlier, true_before}
 use Rattle.dk_engine.specs.Exact.{SlotBefore}
-use Rattle.dk_engine.specs.Ordering.{is_slot_before}
-use Rattle.dk_engine.specs.declared.slot.Slot.{Slot}
+use Rattle.dk_engine.specs.Sweeps.Ordering.{is_slot_before}
+use Rattle.dk_engine.specs.declared.slots.slot.Slot.{Slot}
 
 pub test_before : (a b : Slot) → is_slot_before b.row b.leaders a ≡ true → SlotBefore a b
 test_before a b h = true_before b.row b.leaders a h

@@ -35,12 +35,12 @@ use Rattle.dk_template.specs.declared.grammar.Grammar.{Grammar}
 use Rattle.dk_engine.proofs.Leading.{are_leaders_of, long_leaders}
 use Rattle.dk_engine.proofs.Meeting.{has_present, held_of_sample, in_pattern, kind_of_value}
 use Rattle.dk_engine.proofs.Readings.{count_of_leaders, read_leaders_fits, row_is}
-use Rattle.dk_engine.specs.Conditions.{AreParts, ArePatternsOf, IsConstantOf, IsSlotOf, IsValueOf}
+use Rattle.dk_engine.specs.Saved.Conditions.{AreParts, ArePatternsOf, IsConstantOf, IsSlotOf, IsValueOf}
 use Rattle.dk_engine.specs.Exact.{AreOfPoint, AreSamples, IsKeptOf, IsSlot}
 use Rattle.dk_engine.specs.Laws.{KeptPartsMeetTheirConditions}
 use Rattle.dk_engine.specs.Reading.{read_leaders}
 use Rattle.dk_engine.specs.declared.kept.Kept.{Kept}
-use Rattle.dk_engine.specs.declared.slot.Slot.{Slot}
+use Rattle.dk_engine.specs.declared.slots.slot.Slot.{Slot}
 
 -- ---- states
 -- where a plain row's state is Empty there is no tuple

@@ -29,14 +29,14 @@ use Rattle.dk_engine.proofs.KnownNumbers.{all_within, line_sample, listed_number
 use Rattle.dk_engine.proofs.OneTuple.{row_by, slot_by}
 use Rattle.dk_engine.proofs.Stretches.{planar_sample}
 use Rattle.dk_engine.specs.Feeding.{with_sample}
+use Rattle.dk_engine.specs.Feeding.Narrow.{change_by, with_change, with_growth, with_state}
 use Rattle.dk_engine.specs.Idle.{AreNotes, AreSkips, IsIdle, PassesStill, are_fixed, are_near_each, are_same, are_within, is_axis, is_diagonal, is_fixed, is_idle_over, is_idle_straight, is_listed, is_near, is_passed, later, meets, skip_in}
-use Rattle.dk_engine.specs.Narrow.{change_by, with_change, with_growth, with_state}
-use Rattle.dk_engine.specs.Parts.{no_slot, slot_in}
-use Rattle.dk_engine.specs.declared.changes.Change.{Change}
-use Rattle.dk_engine.specs.declared.facts.Range.{Range}
-use Rattle.dk_engine.specs.declared.growing.Growth.{Growth}
+use Rattle.dk_engine.specs.Reading.Parts.{no_slot, slot_in}
+use Rattle.dk_engine.specs.declared.feed.changes.Change.{Change}
+use Rattle.dk_engine.specs.declared.feed.growing.Growth.{Growth}
 use Rattle.dk_engine.specs.declared.idle.Watch.{Watch}
-use Rattle.dk_engine.specs.declared.slot.Slot.{Slot}
+use Rattle.dk_engine.specs.declared.idle.facts.Range.{Range}
+use Rattle.dk_engine.specs.declared.slots.slot.Slot.{Slot}
 
 -- ---- planes that are idle
 diagonal : (x z : ℤ) → pos 1 *ℤ x +ℤ negsuc 0 *ℤ x +ℤ pos 0 *ℤ z ≡ neg_ℤ (pos 0)

@@ -3,11 +3,11 @@ use Rattle.std.specs.Prelude.{◌≡◌, ◌++◌, ◌∷◌, ℕ, List, [], fol
 use Rattle.std.proofs.Common.{◌∙◌, ap, arith}
 use Rattle.std.proofs.lemmas.List.{length-set, take-append-le, take_all}
 use Rattle.dk_engine.proofs.Applying.{changes_keep_length}
-use Rattle.dk_engine.specs.Narrow.{grown_state, with_change, with_growth, with_state}
-use Rattle.dk_engine.specs.Parts.{slot_in}
-use Rattle.dk_engine.specs.declared.changes.SlotChanges.{SlotChanges}
-use Rattle.dk_engine.specs.declared.growing.Growth.{Growth}
-use Rattle.dk_engine.specs.declared.slot.Slot.{Slot}
+use Rattle.dk_engine.specs.Feeding.Narrow.{grown_state, with_change, with_growth, with_state}
+use Rattle.dk_engine.specs.Reading.Parts.{slot_in}
+use Rattle.dk_engine.specs.declared.feed.changes.SlotChanges.{SlotChanges}
+use Rattle.dk_engine.specs.declared.feed.growing.Growth.{Growth}
+use Rattle.dk_engine.specs.declared.slots.slot.Slot.{Slot}
 
 growths_keep_length : (growths : List Growth) (cur : List Slot) → length (fold with_growth cur growths) ≡ length cur
 growths_keep_length [] cur = refl

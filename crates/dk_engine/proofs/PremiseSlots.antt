@@ -43,7 +43,7 @@ use Rattle.dk_template.specs.declared.templates.Takes.{Takes}
 use Rattle.dk_template.specs.declared.templates.Takes.TheVariants.{One, Two, Three}
 use Rattle.dk_engine.specs.Exact.{Lead}
 use Rattle.dk_engine.specs.StepLaws.{RolesReadTheSlot}
-use Rattle.dk_engine.specs.Step.{IsPlaced, IsPremiseOf, slot_vars}
+use Rattle.dk_engine.specs.Feeding.Step.{IsPlaced, IsPremiseOf, slot_vars}
 
 -- ---- the table of the rules
 -- a test that all premises of all rules pass

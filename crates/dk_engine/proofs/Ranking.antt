@@ -13,10 +13,10 @@ use Rattle.dk_template.specs.declared.grammar.Grammar.{Grammar}
 use Rattle.dk_template.specs.declared.grammar.RowId.{RowId}
 use Rattle.dk_engine.proofs.PremiseSlots.{passes, rank_below}
 use Rattle.dk_engine.specs.Reading.{rank_bound}
-use Rattle.dk_engine.specs.Step.{Answer, IsFreed, slot_vars}
-use Rattle.dk_engine.specs.declared.now.Now.{Now}
+use Rattle.dk_engine.specs.Feeding.Step.{Answer, IsFreed, slot_vars}
+use Rattle.dk_engine.specs.declared.feed.now.Now.{Now}
 use Rattle.dk_engine.specs.StepLaws.{FreedByRank, FreedTuplesComeByRank}
-use Rattle.dk_engine.specs.declared.slot.Slot.{Slot}
+use Rattle.dk_engine.specs.declared.slots.slot.Slot.{Slot}
 
 few_ranks : AllPremises (λ r p. nat_lt (rank_of r.0) rank_bound)
 unfolding rules rows

@@ -16,8 +16,8 @@ use Rattle.dk_template.specs.declared.grammar.Grammar.{Grammar}
 use Rattle.dk_template.specs.declared.grammar.Grammar.TheVariants as grammar
 use Rattle.dk_template.specs.declared.grammar.RowId.{RowId}
 use Rattle.dk_engine.proofs.PremiseSlots.{passes}
-use Rattle.dk_engine.specs.Reached.{concluded_by_number, has_row, reached_by_number, reached_from, rows_reached}
-use Rattle.dk_engine.specs.Step.{IsPremiseOf}
+use Rattle.dk_engine.specs.Feeding.Step.{IsPremiseOf}
+use Rattle.dk_engine.specs.Sweeps.Reached.{concluded_by_number, has_row, reached_by_number, reached_from, rows_reached}
 
 -- ---- tests of a table
 abbrev at : List (List RowId) → ℕ → List RowId

@@ -25,11 +25,11 @@ use Rattle.dk_template.specs.declared.grammar.RowId.{RowId}
 use Rattle.dk_engine.proofs.Leading.{admit_all}
 use Rattle.dk_engine.proofs.Readings.{row_is}
 use Rattle.dk_engine.proofs.WellKept.{read_written_proper}
-use Rattle.dk_engine.specs.Conditions.{CanBeRead}
 use Rattle.dk_engine.specs.Exact.{AreOfPoint}
 use Rattle.dk_engine.specs.Feeding.{read_after, with_sample}
-use Rattle.dk_engine.specs.Parts.{leaders_of}
 use Rattle.dk_engine.specs.Reading.{read_leaders, read_written, state_read}
+use Rattle.dk_engine.specs.Reading.Parts.{leaders_of}
+use Rattle.dk_engine.specs.Saved.Conditions.{CanBeRead}
 use Rattle.dk_engine.specs.declared.kept.Kept.{Kept}
 
 module _ (infos : List VarInfo) (sample : List Value) (sampled : IsSample infos sample) where

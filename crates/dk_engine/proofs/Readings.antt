@@ -39,12 +39,12 @@ use Rattle.dk_template.specs.declared.grammar.Grammar.{Grammar}
 use Rattle.dk_template.specs.declared.grammar.Grammar.TheVariants as grammar
 use Rattle.dk_template.specs.declared.grammar.RowId.{RowId}
 use Rattle.dk_engine.proofs.Leading.{admit_all, admitted_there, agree_all, are_leaders_of, lead_all, long_leaders}
-use Rattle.dk_engine.specs.Conditions.{AreLeadersOf}
+use Rattle.dk_engine.specs.Saved.Conditions.{AreLeadersOf}
 use Rattle.dk_engine.proofs.SlotLookups.{slot_found, slot_missing}
 use Rattle.dk_engine.specs.Exact.{AreOfPoint, AreSamples, IsKeptOf, IsOverLeaders, Lead}
 use Rattle.dk_engine.specs.Feeding.{is_broken}
 use Rattle.dk_engine.specs.Laws.{AgreeReadIsAgreement, CountReadIsCount, ReadingIsFit}
-use Rattle.dk_engine.specs.Parts.{all_known, known_tuple, leaders_of, slot_at}
+use Rattle.dk_engine.specs.Reading.Parts.{all_known, known_tuple, leaders_of, slot_at}
 use Rattle.dk_engine.specs.Reading.{agree_read, count_read, read_leaders, read_slot, read_written, state_of_one, state_read}
 use Rattle.dk_engine.specs.declared.kept.Kept.{Kept}
 

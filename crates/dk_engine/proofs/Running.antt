@@ -20,11 +20,11 @@ use Rattle.dk_template.specs.declared.grammar.Grammar.{Grammar}
 use Rattle.dk_template.specs.declared.grammar.RowId.{RowId}
 use Rattle.dk_engine.specs.Exact.{SlotBefore}
 use Rattle.dk_engine.specs.Feeding.{with_sample}
+use Rattle.dk_engine.specs.Feeding.Narrow.{StateStays, StayBetween, is_in_run, outcome}
+use Rattle.dk_engine.specs.Feeding.Step.{Answer, IsPlaced, can_close}
 use Rattle.dk_engine.specs.Idle.{PassesStill, skip_in}
-use Rattle.dk_engine.specs.Narrow.{StateStays, StayBetween, is_in_run, outcome}
-use Rattle.dk_engine.specs.Parts.{no_slot, slot_in}
-use Rattle.dk_engine.specs.Step.{Answer, IsPlaced, can_close}
-use Rattle.dk_engine.specs.declared.slot.Slot.{Slot}
+use Rattle.dk_engine.specs.Reading.Parts.{no_slot, slot_in}
+use Rattle.dk_engine.specs.declared.slots.slot.Slot.{Slot}
 
 -- the sample leaves a slot's state of the row as it is
 abbrev pub IsStill : RowId → List Value → Slot → Type 0

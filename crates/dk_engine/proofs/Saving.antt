@@ -24,16 +24,16 @@ use Rattle.dk_samples.specs.Samples.{is_present}
 use Rattle.dk_suppress.specs.Rules.{is_suppressed}
 use Rattle.dk_template.specs.Exchange.{turned_state, written_order}
 use Rattle.dk_template.specs.declared.grammar.Grammar.{Grammar}
-use Rattle.dk_engine.specs.Conditions.{AreParts, CanBeFed, CanBeRead}
+use Rattle.dk_engine.specs.Saved.Conditions.{AreParts, CanBeFed, CanBeRead}
 use Rattle.dk_engine.proofs.PartsOfSamples.{kept_parts_meet}
 use Rattle.dk_engine.specs.Exact.{ArePatterns, IsKeptOf}
 use Rattle.dk_engine.specs.Laws.{KeptPartsAreSaved}
-use Rattle.dk_engine.specs.Parts.{all_known, known_tuple, slot_at}
+use Rattle.dk_engine.specs.Reading.Parts.{all_known, known_tuple, slot_at}
 use Rattle.dk_engine.specs.Reading.{rank_bound, read_leaders, read_slot, state_of_one}
-use Rattle.dk_engine.specs.Restored.{AreOpen, AreShaped, AreUnsuppressed, HaveParts, IsConstant, IsRearranged}
+use Rattle.dk_engine.specs.Saved.Restored.{AreOpen, AreShaped, AreUnsuppressed, HaveParts, IsConstant, IsRearranged}
 use Rattle.dk_engine.specs.Saved.{parts_of}
 use Rattle.dk_engine.specs.declared.kept.Kept.{Kept}
-use Rattle.dk_engine.specs.declared.parts.Parts.{Parts}
+use Rattle.dk_engine.specs.declared.saved.parts.Parts.{Parts}
 
 -- ---- one part after another
 module _ (count : ℕ) (parts : Parts) (kept : Kept) (have : HaveParts count parts kept) where

@@ -28,13 +28,13 @@ use Rattle.dk_engine.proofs.SlotLookups.{slot_cases}
 use Rattle.dk_engine.proofs.Standing.{none_passes}
 use Rattle.dk_engine.specs.Exact.{AreOfPoint, AreSamples, IsKeptOf}
 use Rattle.dk_engine.specs.Feeding.{IsTurned, parts_after, read_after, unchanged_now, with_sample}
-use Rattle.dk_engine.specs.Narrow.{AreChanges, AreLeft, AreMerged, AreOpened, IsChange, closes, IsShut, slots_left, loses_by, may_begin, outcome}
-use Rattle.dk_engine.specs.Parts.{no_slot, slot_in}
+use Rattle.dk_engine.specs.Feeding.Narrow.{AreChanges, AreLeft, AreMerged, AreOpened, IsChange, closes, IsShut, slots_left, loses_by, may_begin, outcome}
+use Rattle.dk_engine.specs.Feeding.Step.{Answer, AreCandidates, IsBegunBound, IsPlaced, IsPremiseOf, IsStep, Tells, can_close, is_empty_state, is_of_elements, is_touched, slot_vars}
 use Rattle.dk_engine.specs.Reading.{state_read}
-use Rattle.dk_engine.specs.Step.{Answer, AreCandidates, IsBegunBound, IsPlaced, IsPremiseOf, IsStep, Tells, can_close, is_empty_state, is_of_elements, is_touched, slot_vars}
-use Rattle.dk_engine.specs.declared.changes.Change.{Change}
+use Rattle.dk_engine.specs.Reading.Parts.{no_slot, slot_in}
+use Rattle.dk_engine.specs.declared.feed.changes.Change.{Change}
 use Rattle.dk_engine.specs.declared.kept.Kept.{Kept}
-use Rattle.dk_engine.specs.declared.slot.Slot.{Slot}
+use Rattle.dk_engine.specs.declared.slots.slot.Slot.{Slot}
 
 -- ---- slots and their changes
 module _ (made : Slot → State) (slots : List Slot) (changes : List Change) (are : AreChanges made slots changes) where

@@ -14,7 +14,7 @@ use Rattle.dk_forms.specs.Laws.{IsIn}
 use Rattle.dk_instances.proofs.Ascending.{Ascend, ascend_from_pairs}
 use Rattle.dk_instances.proofs.Members.{contained}
 use Rattle.dk_template.specs.declared.grammar.Grammar.{Grammar}
-use Rattle.dk_engine.specs.Conditions.{CanBeFed}
+use Rattle.dk_engine.specs.Saved.Conditions.{CanBeFed}
 use Rattle.dk_engine.specs.declared.kept.Kept.{Kept}
 
 -- items in rising order of numbers from m on and below n

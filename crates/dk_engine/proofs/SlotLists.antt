@@ -29,10 +29,10 @@ use Rattle.dk_template.specs.declared.grammar.RowId.{RowId}
 use Rattle.dk_engine.proofs.Readings.{broken_is, not_broken}
 use Rattle.dk_engine.specs.Exact.{AreSlots, IsSlot, SlotBefore}
 use Rattle.dk_engine.specs.Feeding.{has_slot, is_broken, slots_of, slots_of_row}
+use Rattle.dk_engine.specs.Feeding.Step.{IsPlaced}
 use Rattle.dk_engine.specs.Laws.{SlotsOfFitsAreExact}
-use Rattle.dk_engine.specs.Parts.{all_known}
-use Rattle.dk_engine.specs.Step.{IsPlaced}
-use Rattle.dk_engine.specs.declared.slot.Slot.{Slot}
+use Rattle.dk_engine.specs.Reading.Parts.{all_known}
+use Rattle.dk_engine.specs.declared.slots.slot.Slot.{Slot}
 
 -- leaders that have a slot don't have Broken
 pub has_unbroken : (infos : List VarInfo) (known : Entries) (answered : RowId → List VarId → State) (row : RowId) (vars : List VarId)

@@ -7,8 +7,8 @@ use Rattle.dk_forms.specs.declared.states.State.{State}
 use Rattle.dk_presence.proofs.Sameness.{same_vars-refl, same_vars-true}
 use Rattle.dk_presence.specs.Patterns.{same_vars}
 use Rattle.dk_template.specs.declared.grammar.RowId.{RowId}
-use Rattle.dk_engine.specs.Parts.{is_slot_of, slot_at}
-use Rattle.dk_engine.specs.declared.slot.Slot.{Slot}
+use Rattle.dk_engine.specs.Reading.Parts.{is_slot_of, slot_at}
+use Rattle.dk_engine.specs.declared.slots.slot.Slot.{Slot}
 
 abbrev slot : RowId → List VarId → State → Slot
 slot row vars s = record { row = row; leaders = vars; state = s }

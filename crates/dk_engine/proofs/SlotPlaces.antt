@@ -11,9 +11,9 @@ use Rattle.dk_presence.proofs.Sameness.{same_vars-true}
 use Rattle.dk_presence.specs.Patterns.{same_vars}
 use Rattle.dk_template.specs.declared.grammar.RowId.{RowId}
 use Rattle.dk_engine.specs.Exact.{SlotBefore}
-use Rattle.dk_engine.specs.Ordering.{is_slot_before, precedes}
-use Rattle.dk_engine.specs.Parts.{is_slot_of, slot_at}
-use Rattle.dk_engine.specs.declared.slot.Slot.{Slot}
+use Rattle.dk_engine.specs.Reading.Parts.{is_slot_of, slot_at}
+use Rattle.dk_engine.specs.Sweeps.Ordering.{is_slot_before, precedes}
+use Rattle.dk_engine.specs.declared.slots.slot.Slot.{Slot}
 
 or_left : (a b : Bool) → a ≡ true → (a || b) ≡ true
 or_left a b e = ap (λ c. c || b) e

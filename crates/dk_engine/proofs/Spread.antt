@@ -16,7 +16,7 @@ use Rattle.dk_template.specs.declared.grammar.Grammar.{Grammar}
 use Rattle.dk_template.specs.declared.grammar.RowId.{RowId}
 use Rattle.dk_engine.specs.Feeding.{has_slot, slots_of_row}
 use Rattle.dk_engine.specs.Sweeps.{considered, firsts, seconds, thirds}
-use Rattle.dk_engine.specs.declared.slot.Slot.{Slot}
+use Rattle.dk_engine.specs.declared.slots.slot.Slot.{Slot}
 
 module _ (infos : List VarInfo) (known : Entries) (answered : RowId → List VarId → State) (row : RowId) (leaders : List VarId) where
   abbrev slot_with : List VarId → Slot

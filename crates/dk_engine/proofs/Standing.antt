@@ -22,10 +22,10 @@ use Rattle.dk_template.specs.declared.grammar.Grammar.{Grammar}
 use Rattle.dk_template.specs.declared.grammar.RowId.{RowId}
 use Rattle.dk_engine.proofs.Pushing.{seen_changes_nothing}
 use Rattle.dk_engine.specs.Exact.{Lead}
-use Rattle.dk_engine.specs.Parts.{all_known}
+use Rattle.dk_engine.specs.Reading.Parts.{all_known}
 use Rattle.dk_engine.specs.declared.kept.Kept.{Kept}
-use Rattle.dk_engine.specs.Step.{IsStep, is_new, is_touched}
-use Rattle.dk_engine.specs.declared.now.Now.{Now}
+use Rattle.dk_engine.specs.Feeding.Step.{IsStep, is_new, is_touched}
+use Rattle.dk_engine.specs.declared.feed.now.Now.{Now}
 
 -- ---- lists
 pub all_front : {X : Type 0} (P : X → Type 0) (xs : List X) (x : X) → All P (xs ++ x ∷ []) → All P xs

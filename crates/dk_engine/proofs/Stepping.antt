@@ -28,12 +28,12 @@ use Rattle.dk_engine.proofs.SlotLookups.{slot_cases, slot_there}
 use Rattle.dk_engine.proofs.Standing.{IsOld, all_front, all_known_before, all_known_still, constants_say_the_same, lead_before, leads_on, old_each, untouched_by_old}
 use Rattle.dk_engine.specs.Exact.{IsOverLeaders, IsSlot}
 use Rattle.dk_engine.specs.Feeding.{with_sample}
-use Rattle.dk_engine.specs.Parts.{all_known, slot_at}
+use Rattle.dk_engine.specs.Reading.Parts.{all_known, slot_at}
 use Rattle.dk_engine.specs.declared.kept.Kept.{Kept}
-use Rattle.dk_engine.specs.Step.{Answer, AreCandidates, IsLeftOf, IsStep, IsOpened, IsPlaced, IsSteppedSlot, Tells, asks_elements, can_close, is_empty_conclusion, is_empty_state, is_touched, slot_vars}
-use Rattle.dk_engine.specs.declared.now.Now.{Now}
+use Rattle.dk_engine.specs.Feeding.Step.{Answer, AreCandidates, IsLeftOf, IsStep, IsOpened, IsPlaced, IsSteppedSlot, Tells, asks_elements, can_close, is_empty_conclusion, is_empty_state, is_touched, slot_vars}
+use Rattle.dk_engine.specs.declared.feed.now.Now.{Now}
 use Rattle.dk_engine.specs.StepLaws.{SteppedSlotsAreExact}
-use Rattle.dk_engine.specs.declared.slot.Slot.{Slot}
+use Rattle.dk_engine.specs.declared.slots.slot.Slot.{Slot}
 
 module _ {grammar : Grammar} {infos : List VarInfo} {samples : List (List Value)} {sample : List Value} {kept : Kept} {now : Now} (step : IsStep grammar infos samples sample kept now) where
   abbrev pub more : List (List Value)

@@ -13,12 +13,12 @@ use Rattle.dk_template.specs.declared.grammar.Grammar.{Grammar}
 use Rattle.dk_engine.proofs.ReadProper.{read_after_proper}
 use Rattle.dk_engine.proofs.SlotLists.{slot_given, slots_ascend}
 use Rattle.dk_engine.proofs.Turned.{constants_now_lead, leaders_now, patterns_now_lead, values_now}
-use Rattle.dk_engine.specs.Conditions.{AreFormed, CanBeFed}
 use Rattle.dk_engine.specs.Exact.{AreOfPoint}
 use Rattle.dk_engine.specs.Feeding.{IsTurned, parts_after, read_after, slots_of}
+use Rattle.dk_engine.specs.Saved.Conditions.{AreFormed, CanBeFed}
+use Rattle.dk_engine.specs.declared.feed.now.Now.{Now}
 use Rattle.dk_engine.specs.declared.kept.Kept.{Kept}
-use Rattle.dk_engine.specs.declared.now.Now.{Now}
-use Rattle.dk_engine.specs.declared.slot.Slot.{Slot}
+use Rattle.dk_engine.specs.declared.slots.slot.Slot.{Slot}
 
 module _ (g : Grammar) (infos : List VarInfo) (point : AreOfPoint infos) (kept : Kept) (can : CanBeFed g infos kept) (sample : List Value) (sampled : IsSample infos sample) (now : Now) where
   -- the slots of a sweep

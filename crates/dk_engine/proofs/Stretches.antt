@@ -27,7 +27,7 @@ use Rattle.dk_template.specs.declared.templates.StateForm.TheVariants as form
 use Rattle.dk_ternary.specs.Rows.{linear_ternary_row}
 use Rattle.dk_engine.proofs.OneTuple.{slot_by, with_tuple}
 use Rattle.dk_engine.specs.Feeding.{with_sample}
-use Rattle.dk_engine.specs.declared.slot.Slot.{Slot}
+use Rattle.dk_engine.specs.declared.slots.slot.Slot.{Slot}
 
 -- ---- points on one line
 -- the test is right

@@ -17,7 +17,7 @@ use Rattle.dk_template.specs.declared.grammar.Grammar.{Grammar}
 use Rattle.dk_template.specs.declared.grammar.RowId.{RowId}
 use Rattle.dk_engine.specs.Feeding.{has_slot}
 use Rattle.dk_engine.specs.Sweeps.{behind, considered, firsts, pairs, seconds, thirds, threes_with_one, threes_with_two, touched_slots, triples, twos_with_one, with_both, with_ends, with_one, with_two}
-use Rattle.dk_engine.specs.declared.slot.Slot.{Slot}
+use Rattle.dk_engine.specs.declared.slots.slot.Slot.{Slot}
 
 -- a leader of the first list at the role k, leaders of the second one before it and any behind it
 abbrev pub IsAtRole : List VarId → List VarId → List VarId → ℕ → List VarId → Type 0

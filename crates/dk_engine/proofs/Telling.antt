@@ -15,7 +15,7 @@ use Rattle.dk_template.specs.declared.grammar.Grammar.{Grammar}
 use Rattle.dk_template.specs.declared.grammar.RowId.{RowId}
 use Rattle.dk_engine.proofs.PremiseSlots.{usable}
 use Rattle.dk_engine.proofs.LostPremises.{answers_differ}
-use Rattle.dk_engine.specs.Step.{Answer, IsPremiseOf, Tells}
+use Rattle.dk_engine.specs.Feeding.Step.{Answer, IsPremiseOf, Tells}
 
 -- the fits tell themselves
 pub fits_tell : (grammar : Grammar) (infos : List VarInfo) (samples : List (List Value)) → Tells grammar infos samples (fit_of samples)

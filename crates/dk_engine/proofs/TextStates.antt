@@ -9,7 +9,7 @@ use Rattle.dk_template.specs.declared.grammar.RowId.{RowId}
 use Rattle.dk_template.specs.declared.templates.StateForm.{StateForm}
 use Rattle.dk_template.specs.declared.templates.StateForm.TheVariants as form
 use Rattle.dk_engine.proofs.Memories.{texts_want}
-use Rattle.dk_engine.specs.Memory.{wants_memory}
+use Rattle.dk_engine.specs.Reading.Memory.{wants_memory}
 use Rattle.std.specs.Prelude.{true}
 
 texts_form : (f : StateForm) (s : State) → IsProper f s → IsTexts s → f ≡ form.Texts

@@ -24,10 +24,10 @@ use Rattle.dk_presence.specs.declared.held.Held.{Held}
 use Rattle.dk_samples.specs.Samples.{value_in}
 use Rattle.dk_template.specs.declared.grammar.Grammar.{Grammar}
 use Rattle.dk_engine.proofs.Meeting.{in_pattern, kind_of_value}
-use Rattle.dk_engine.specs.Conditions.{AreLeadersOf, AreParts, CanBeFed, IsValueOf}
 use Rattle.dk_engine.specs.Feeding.{IsTurned}
+use Rattle.dk_engine.specs.Saved.Conditions.{AreLeadersOf, AreParts, CanBeFed, IsValueOf}
+use Rattle.dk_engine.specs.declared.feed.now.Now.{Now}
 use Rattle.dk_engine.specs.declared.kept.Kept.{Kept}
-use Rattle.dk_engine.specs.declared.now.Now.{Now}
 
 pub parts_can_be_fed : (grammar : Grammar) (infos : List VarInfo) (kept : Kept) → AreParts grammar infos kept → CanBeFed grammar infos kept
 parts_can_be_fed grammar infos kept are = record {

@@ -30,12 +30,12 @@ use Rattle.dk_engine.proofs.Stepping.{stepped_slots_are_exact}
 use Rattle.dk_engine.proofs.Unsplit.{unsplit_leaders_stay}
 use Rattle.dk_engine.specs.Exact.{IsSlot, Lead}
 use Rattle.dk_engine.specs.Feeding.{with_sample}
-use Rattle.dk_engine.specs.Parts.{all_known, slot_at}
+use Rattle.dk_engine.specs.Reading.Parts.{all_known, slot_at}
 use Rattle.dk_engine.specs.declared.kept.Kept.{Kept}
-use Rattle.dk_engine.specs.Step.{AreCandidates, ChangesNothing, IsPlaced, IsPremiseOf, IsStep, is_begun, is_touched, slot_vars}
-use Rattle.dk_engine.specs.declared.now.Now.{Now}
+use Rattle.dk_engine.specs.Feeding.Step.{AreCandidates, ChangesNothing, IsPlaced, IsPremiseOf, IsStep, is_begun, is_touched, slot_vars}
+use Rattle.dk_engine.specs.declared.feed.now.Now.{Now}
 use Rattle.dk_engine.specs.StepLaws.{FirstSampleHasNoSlots, UnchangedSlotsAreExact}
-use Rattle.dk_engine.specs.declared.slot.Slot.{Slot}
+use Rattle.dk_engine.specs.declared.slots.slot.Slot.{Slot}
 
 module _ {grammar : Grammar} {infos : List VarInfo} {samples : List (List Value)} {sample : List Value} {kept : Kept} {now : Now} (step : IsStep grammar infos samples sample kept now)
     (quiet : ChangesNothing sample kept now) where

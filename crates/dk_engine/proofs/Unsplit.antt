@@ -12,7 +12,7 @@ use Rattle.dk_presence.proofs.Sameness.{same_ascending, same_id}
 use Rattle.dk_presence.specs.Patterns.{has}
 use Rattle.dk_samples.specs.Leaders.{VarsAscend}
 use Rattle.dk_engine.proofs.Standing.{led_before, leads_on}
-use Rattle.dk_engine.specs.Step.{is_new}
+use Rattle.dk_engine.specs.Feeding.Step.{is_new}
 use Rattle.dk_engine.specs.StepLaws.{OwnLeadersAscend, UnsplitLeadersStay}
 
 -- ---- own leaders ascend

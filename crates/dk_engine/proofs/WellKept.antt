@@ -42,11 +42,11 @@ use Rattle.dk_template.specs.declared.templates.StateForm.TheVariants as form
 use Rattle.dk_engine.proofs.Leading.{there_if_suits}
 use Rattle.dk_engine.proofs.Readings.{row_is, some_known}
 use Rattle.dk_engine.proofs.SlotLookups.{slot_found}
-use Rattle.dk_engine.specs.Conditions.{CanBeRead}
-use Rattle.dk_engine.specs.Parts.{all_known, known_tuple, slot_at}
 use Rattle.dk_engine.specs.Reading.{read_slot, read_written, state_of_one}
+use Rattle.dk_engine.specs.Reading.Parts.{all_known, known_tuple, slot_at}
+use Rattle.dk_engine.specs.Saved.Conditions.{CanBeRead}
 use Rattle.dk_engine.specs.declared.kept.Kept.{Kept}
-use Rattle.dk_engine.specs.declared.slot.Slot.{Slot}
+use Rattle.dk_engine.specs.declared.slots.slot.Slot.{Slot}
 
 -- ---- conclusions
 plain_form : (f : StateForm) → is_plain f ≡ true → f ≡ form.Plain

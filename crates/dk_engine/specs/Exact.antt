@@ -22,9 +22,9 @@ use Rattle.dk_template.specs.Admitted.{admits, is_written}
 use Rattle.dk_template.specs.Templates.{IsRowOf}
 use Rattle.dk_template.specs.declared.grammar.Grammar.{Grammar}
 use Rattle.dk_template.specs.declared.grammar.RowId.{RowId}
-use Rattle.dk_engine.specs.Parts.{all_known}
+use Rattle.dk_engine.specs.Reading.Parts.{all_known}
 use Rattle.dk_engine.specs.declared.kept.Kept.{Kept}
-use Rattle.dk_engine.specs.declared.slot.Slot.{Slot}
+use Rattle.dk_engine.specs.declared.slots.slot.Slot.{Slot}
 
 -- ---- tuples of leaders
 -- each of the variables is its own leader

@@ -1,4 +1,7 @@
 -- What a sample makes of the slots.
+pub mod Merged
+pub mod Narrow
+pub mod Step
 use Rattle.std.specs.Prelude.{◌≡◌, ◌<◌, ◌+◌, ◌&&◌, ℕ, Bool, true, false, not, List, [], ◌∷◌, filter, flat_map, map, if◌then◌else◌}
 use Rattle.dk_base.specs.declared.kinds.VarId.{VarId}
 use Rattle.dk_base.specs.declared.kinds.VarInfo.{VarInfo}
@@ -22,12 +25,12 @@ use Rattle.dk_template.specs.Joins.{joined}
 use Rattle.dk_template.specs.Templates.{arity_of, form_of}
 use Rattle.dk_template.specs.declared.grammar.Grammar.{Grammar}
 use Rattle.dk_template.specs.declared.grammar.RowId.{RowId}
-use Rattle.dk_engine.specs.Parts.{all_known}
+use Rattle.dk_engine.specs.Reading.Parts.{all_known}
 use Rattle.dk_engine.specs.Reading.{agree_read, count_read, state_read}
 use Rattle.dk_base.specs.SameValues.{same_value}
 use Rattle.dk_engine.specs.declared.kept.Kept.{Kept}
-use Rattle.dk_engine.specs.declared.now.Now.{Now}
-use Rattle.dk_engine.specs.declared.slot.Slot.{Slot}
+use Rattle.dk_engine.specs.declared.feed.now.Now.{Now}
+use Rattle.dk_engine.specs.declared.slots.slot.Slot.{Slot}
 
 -- ---- one sample more
 -- a state of variables with one sample more, which counts where none of them is missing

@@ -1,6 +1,7 @@
 -- Slots that no sample changes of which some facts are true, and how a search for changed slots passes over them. A fact speaks of
 -- variables and their numbers alone, and is true where one of its variables is missing: a number is within bounds, some rise, or two
 -- compare as they did.
+pub mod Bounding
 use Rattle.std.specs.Prelude.{◌≡◌, ◌<◌, ◌≤◌, ◌^◌, ◌&&◌, ◌||◌, ◌==◌, ℕ, ℤ, pos, negsuc, neg_ℤ, Bool, true, false, List, [], ◌∷◌, Option, None, Some, if◌then◌else◌, int_le, int_lt, length, nat_le, nat_lt, slice_index_or, unsigned_abs}
 use Rattle.std.specs.List.{list_all, list_any}
 use Rattle.std.specs.Ordering.{int_eq}
@@ -12,12 +13,12 @@ use Rattle.dk_forms.specs.declared.states.State.TheVariants.{Greatest, Least, Pl
 use Rattle.dk_grammar.specs.Runs.{with_sample}
 use Rattle.dk_samples.specs.Samples.{value_in}
 use Rattle.dk_template.specs.Numbers as number
-use Rattle.dk_engine.specs.Bounding.{compares}
-use Rattle.dk_engine.specs.Parts.{slot_in}
-use Rattle.dk_engine.specs.declared.facts.Compared.{Compared}
-use Rattle.dk_engine.specs.declared.facts.Range.{Range}
+use Rattle.dk_engine.specs.Idle.Bounding.{compares}
+use Rattle.dk_engine.specs.Reading.Parts.{slot_in}
 use Rattle.dk_engine.specs.declared.idle.Watch.{Watch}
-use Rattle.dk_engine.specs.declared.slot.Slot.{Slot}
+use Rattle.dk_engine.specs.declared.idle.facts.Compared.{Compared}
+use Rattle.dk_engine.specs.declared.idle.facts.Range.{Range}
+use Rattle.dk_engine.specs.declared.slots.slot.Slot.{Slot}
 
 -- the variable is among them
 abbrev pub is_among : List VarId → VarId → Bool

@@ -19,15 +19,15 @@ use Rattle.dk_template.specs.Premises.{AreThere}
 use Rattle.dk_template.specs.Templates.{IsRowOf}
 use Rattle.dk_template.specs.declared.grammar.Grammar.{Grammar}
 use Rattle.dk_template.specs.declared.grammar.RowId.{RowId}
-use Rattle.dk_engine.specs.Conditions.{AreParts}
 use Rattle.dk_engine.specs.Exact.{AreOfPoint, AreSamples, AreSlots, IsKeptOf}
 use Rattle.dk_engine.specs.Feeding.{IsFed, read_after, slots_of}
-use Rattle.dk_engine.specs.Parts.{leaders_of}
 use Rattle.dk_engine.specs.Reading.{agree_read, count_read, state_read}
+use Rattle.dk_engine.specs.Reading.Parts.{leaders_of}
 use Rattle.dk_engine.specs.Saved.{AreSavedParts, parts_of}
+use Rattle.dk_engine.specs.Saved.Conditions.{AreParts}
+use Rattle.dk_engine.specs.declared.feed.now.Now.{Now}
 use Rattle.dk_engine.specs.declared.kept.Kept.{Kept}
-use Rattle.dk_engine.specs.declared.now.Now.{Now}
-use Rattle.dk_engine.specs.declared.slot.Slot.{Slot}
+use Rattle.dk_engine.specs.declared.slots.slot.Slot.{Slot}
 
 -- a statement of what is kept of samples
 abbrev pub OfKept : (Grammar → List VarInfo → List (List Value) → Kept → Type 0) → Type 0

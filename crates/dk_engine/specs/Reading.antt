@@ -1,4 +1,7 @@
 -- What the kept parts alone say of any variables.
+pub mod Levels
+pub mod Memory
+pub mod Parts
 use Rattle.std.specs.Prelude.{◌==◌, ℕ, zero, suc, Bool, true, false, List, [], ◌∷◌, Option, Some, None, if◌then◌else◌}
 use Rattle.dk_base.specs.declared.kinds.VarId.{VarId}
 use Rattle.dk_base.specs.declared.values.Value.{Value}
@@ -12,7 +15,7 @@ use Rattle.dk_suppress.specs.Rules.{is_suppressed}
 use Rattle.dk_suppress.specs.Soundness.{holds_of}
 use Rattle.dk_template.specs.Exchange.{turned_state, written_order}
 use Rattle.dk_template.specs.declared.grammar.RowId.{RowId}
-use Rattle.dk_engine.specs.Parts.{all_known, known_tuple, leaders_of, slot_at}
+use Rattle.dk_engine.specs.Reading.Parts.{all_known, known_tuple, leaders_of, slot_at}
 use Rattle.dk_engine.specs.declared.kept.Kept.{Kept}
 
 -- ---- one tuple of leaders

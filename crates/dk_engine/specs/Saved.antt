@@ -1,4 +1,7 @@
 -- The kept parts in the order in which they are saved.
+pub mod Bitmaps
+pub mod Conditions
+pub mod Restored
 use Rattle.std.specs.Prelude.{◌≡◌, ◌≤◌, ◌^◌, List}
 use Rattle.dk_base.specs.declared.kinds.VarInfo.{VarInfo}
 use Rattle.dk_classes.specs.Leaders.{own_leaders}
@@ -6,9 +9,9 @@ use Rattle.dk_snapshot.specs.Classes.{classes_of}
 use Rattle.dk_snapshot.specs.Entries.{all_known_of}
 use Rattle.dk_snapshot.specs.Patterns.{patterns_of}
 use Rattle.dk_template.specs.declared.grammar.Grammar.{Grammar}
-use Rattle.dk_engine.specs.Conditions.{AreParts}
+use Rattle.dk_engine.specs.Saved.Conditions.{AreParts}
 use Rattle.dk_engine.specs.declared.kept.Kept.{Kept}
-use Rattle.dk_engine.specs.declared.parts.Parts.{Parts}
+use Rattle.dk_engine.specs.declared.saved.parts.Parts.{Parts}
 
 -- the members of each class, by its leader; the patterns, ascending; the constants, by leader; and the slots
 abbrev pub parts_of : Kept → Parts

@@ -21,15 +21,15 @@ use Rattle.dk_instances.specs.Laws.{satisfies}
 use Rattle.dk_template.specs.declared.answers.Premise.{Premise}
 use Rattle.dk_template.specs.declared.grammar.Grammar.{Grammar}
 use Rattle.dk_template.specs.declared.grammar.RowId.{RowId}
-use Rattle.dk_engine.specs.Choices.{freed_choices, touched_choices, tuples_from}
+use Rattle.dk_engine.specs.Sweeps.Choices.{freed_choices, touched_choices, tuples_from}
 use Rattle.dk_engine.specs.Exact.{AreOfPoint, ArePatterns, AreSlots, IsKeptOf, IsSlot, Lead}
 use Rattle.dk_engine.specs.Feeding.{read_after}
-use Rattle.dk_engine.specs.Parts.{slot_at}
+use Rattle.dk_engine.specs.Reading.Parts.{slot_at}
 use Rattle.dk_engine.specs.declared.kept.Kept.{Kept}
 use Rattle.dk_engine.specs.Reading.{rank_bound, state_read}
-use Rattle.dk_engine.specs.Step.{Answer, AreCandidates, ChangesNothing, HaveFreedBelow, IsBegunBound, IsFreed, IsFreedBy, IsPremiseOf, IsStep, IsStepped, Tells, is_touched, slot_vars}
-use Rattle.dk_engine.specs.declared.now.Now.{Now}
-use Rattle.dk_engine.specs.declared.slot.Slot.{Slot}
+use Rattle.dk_engine.specs.Feeding.Step.{Answer, AreCandidates, ChangesNothing, HaveFreedBelow, IsBegunBound, IsFreed, IsFreedBy, IsPremiseOf, IsStep, IsStepped, Tells, is_touched, slot_vars}
+use Rattle.dk_engine.specs.declared.feed.now.Now.{Now}
+use Rattle.dk_engine.specs.declared.slots.slot.Slot.{Slot}
 
 -- a statement of a step
 abbrev pub OfStep : (Grammar → List VarInfo → List (List Value) → List Value → Kept → Now → Type 0) → Type 0

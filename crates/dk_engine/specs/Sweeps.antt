@@ -1,4 +1,8 @@
 -- The slots that states give, tuple by tuple.
+pub mod Choices
+pub mod Ordering
+pub mod Reached
+pub mod Suited
 use Rattle.std.specs.Prelude.{◌==◌, ◌++◌, ◌-◌, List, [], ◌∷◌, filter, flat_map, if◌then◌else◌, length, map, slice_index_or}
 use Rattle.dk_base.specs.declared.kinds.VarId.{VarId}
 use Rattle.dk_base.specs.declared.kinds.VarInfo.{VarInfo}
@@ -10,8 +14,8 @@ use Rattle.dk_template.specs.Templates.{arity_of}
 use Rattle.dk_template.specs.declared.grammar.Grammar.{Grammar}
 use Rattle.dk_template.specs.declared.grammar.RowId.{RowId}
 use Rattle.dk_engine.specs.Feeding.{has_slot}
-use Rattle.dk_engine.specs.Reached.{rows_reached}
-use Rattle.dk_engine.specs.declared.slot.Slot.{Slot}
+use Rattle.dk_engine.specs.Sweeps.Reached.{rows_reached}
+use Rattle.dk_engine.specs.declared.slots.slot.Slot.{Slot}
 
 module _ (infos : List VarInfo) (known : Entries) (answered : RowId → List VarId → State) (row : RowId) where
   -- the slot of the leaders, if they have one

@@ -9,17 +9,17 @@ ghost use Rattle.dk_template.specs.Premises.{AreThere};
 ghost use Rattle.dk_template.specs.Proper.{IsProper};
 ghost use Rattle.dk_template.specs.Templates.{IsRowOf, form_of};
 ghost use Rattle.dk_template.specs.declared.grammar.Grammar.{Grammar};
-ghost use Rattle.dk_engine.specs.Conditions.{CanBeFed};
 ghost use Rattle.dk_engine.specs.Exact.{AreOfKinds, AreOfPoint, IsKeptOf};
-ghost use Rattle.dk_engine.specs.Memory.{wants_memory};
-ghost use Rattle.dk_engine.specs.Parts.{all_known, leaders_of};
 ghost use Rattle.dk_engine.specs.Reading.{agree_read, count_read, rank_bound, read_leaders, state_read};
+ghost use Rattle.dk_engine.specs.Reading.Memory.{wants_memory};
+ghost use Rattle.dk_engine.specs.Reading.Parts.{all_known, leaders_of};
+ghost use Rattle.dk_engine.specs.Saved.Conditions.{CanBeFed};
 
-use crate::bitmaps::Bitmaps;
-use crate::constant::{are_known, constant_state};
-use crate::nothing::Nothing;
+use crate::feed::taking::are_of_kinds;
 use crate::over::Over;
-use crate::taking::are_of_kinds;
+use crate::over::constant::{are_known, constant_state};
+use crate::over::nothing::Nothing;
+use crate::saved::bitmaps::Bitmaps;
 use crate::{Counts, Kept, Slot, Slots};
 use dk_base::{List, NoMemory, VarId, VarInfo, View};
 use dk_classes::Classes;
@@ -39,9 +39,9 @@ pub struct Engine {
 }
 
 impl Model for Engine {
-    ghost use Rattle.dk_engine.specs.Conditions.{CanBeFed};
+    ghost use Rattle.dk_engine.specs.Saved.Conditions.{CanBeFed};
     ghost use Rattle.dk_engine.specs.Exact.{AreOfPoint};
-    ghost use Rattle.dk_engine.specs.Levels.{Whole};
+    ghost use Rattle.dk_engine.specs.Reading.Levels.{Whole};
 
     ghost Value = { Whole };
 

@@ -8,22 +8,34 @@ ghost use Rattle.dk_instances.specs.Laws.{IsSample};
 ghost use Rattle.dk_presence.specs.Patterns.{present_in};
 ghost use Rattle.dk_presence.specs.Steps.{AreUnheld, Differ, refined, with_sample_of};
 ghost use Rattle.dk_samples.specs.Leaders.{VarsAscend};
-ghost use Rattle.dk_engine.specs.Conditions.{AreFormed};
 ghost use Rattle.dk_engine.specs.Exact.{AreOfPoint, AreSamples, IsKeptOf};
 ghost use Rattle.dk_engine.specs.Feeding.{IsTurned, parts_after, read_after, slots_of, unchanged_now};
+ghost use Rattle.dk_engine.specs.Feeding.Narrow.{AreFound, IsMergedStep, IsShut, loses_by, lost_places, opened_slots, outcome, slots_left};
 ghost use Rattle.dk_engine.specs.Idle.{PassesStill};
-ghost use Rattle.dk_engine.specs.Narrow.{AreFound, IsMergedStep, IsShut, loses_by, lost_places, opened_slots, outcome, slots_left};
+ghost use Rattle.dk_engine.specs.Saved.Conditions.{AreFormed};
 
-use crate::after::After;
-use crate::changes::{
+pub(crate) mod after;
+pub(crate) mod changes;
+pub(crate) mod changing;
+pub(crate) mod growing;
+mod merging;
+pub(crate) mod now;
+pub(crate) mod operations;
+mod rising;
+mod runs;
+pub(crate) mod staying;
+pub(crate) mod taking;
+
+use crate::feed::after::After;
+use crate::feed::changes::{
     Change, SlotChanges, changes, few_changes, lose_some, lost_places, some_may_begin,
 };
-use crate::changing::apply_changes;
-use crate::counting::are_many;
-use crate::merging::merge_slots;
-use crate::suited::Suited;
+use crate::feed::changing::apply_changes;
+use crate::feed::merging::merge_slots;
 use crate::sweeps::Sweep;
-use crate::touching::{others, touching_leaders};
+use crate::sweeps::counting::are_many;
+use crate::sweeps::suited::Suited;
+use crate::sweeps::touching::{others, touching_leaders};
 use crate::{Engine, Kept, Now, Slots};
 use dk_base::{List, NoMemory, VarId, View};
 use dk_constants::Constants;

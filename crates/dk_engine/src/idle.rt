@@ -9,17 +9,23 @@ ghost use Rattle.dk_base.specs.Values.{values_of};
 ghost use Rattle.dk_engine.specs.Idle.{AreNotes, AreSkips, IsIdle, are_fixed, are_near_each, are_same, is_above, is_axis, is_below, is_compared, is_diagonal, is_driven, is_driven_stretch, is_fixed, is_idle_greatest, is_idle_least, is_idle_over, is_idle_straight, is_near, is_near_number, is_passed, is_told, later, meets, skip_in};
 ghost use Rattle.dk_template.specs.Numbers as number;
 
+mod chain;
+pub(crate) mod ends;
+mod facts;
+pub(crate) mod moves;
+mod noted;
+
 use crate::Slot;
-use crate::chain::{Chain, are_rising};
-use crate::ends::ends_of;
-use crate::facts::{
+use crate::feed::growing::is_near;
+use crate::feed::staying::holds;
+use crate::idle::chain::{Chain, are_rising};
+use crate::idle::ends::ends_of;
+use crate::idle::facts::{
     Compared, Range, Ranges, are_known_near, are_so, are_within, compared_by, is_above, is_below,
     is_compared, is_listed, is_numeric, is_told,
 };
-use crate::growing::is_near;
-use crate::moves::Moves;
-use crate::noted::place_of;
-use crate::staying::holds;
+use crate::idle::moves::Moves;
+use crate::idle::noted::place_of;
 use dk_base::{NoMemory, VarId, View};
 use dk_template::{RowId, State, rows};
 use std::alloc::Global;

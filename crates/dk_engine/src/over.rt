@@ -8,14 +8,19 @@ ghost use Rattle.dk_template.specs.Admitted.{admits};
 ghost use Rattle.dk_template.specs.Proper.{IsProper};
 ghost use Rattle.dk_template.specs.Templates.{IsRowOf, form_of};
 ghost use Rattle.dk_template.specs.declared.grammar.Grammar.{Grammar};
-ghost use Rattle.dk_engine.specs.Conditions.{CanBeRead};
-ghost use Rattle.dk_engine.specs.Memory.{wants_memory};
 ghost use Rattle.dk_engine.specs.Reading.{agree_read, read_leaders, read_written};
+ghost use Rattle.dk_engine.specs.Reading.Memory.{wants_memory};
+ghost use Rattle.dk_engine.specs.Saved.Conditions.{CanBeRead};
+
+pub(crate) mod constant;
+mod lending;
+pub(crate) mod nothing;
+pub(crate) mod points;
 
 use crate::Kept;
-use crate::bitmaps::{Bitmaps, counts_some};
-use crate::constant::{are_known, constant_state};
-use crate::places::find;
+use crate::over::constant::{are_known, constant_state};
+use crate::saved::bitmaps::{Bitmaps, counts_some};
+use crate::slots::places::find;
 use dk_base::{NoMemory, VarId, VarInfo};
 use dk_suppress::suppressed;
 use dk_template::{Answers, Grammar, RowId, State, is_written, turn_state, written_order};
@@ -38,9 +43,9 @@ pub(crate) struct Over<'a, B: Answers> {
 impl<'a, B: Answers> Model for Over<'a, B> {
     ghost use Rattle.std.specs.Prelude.{◌≡◌, IfSome, suc};
     ghost use Rattle.std.specs.List.{AllPairs};
-    ghost use Rattle.dk_engine.specs.Conditions.{CanBeRead};
+    ghost use Rattle.dk_engine.specs.Saved.Conditions.{CanBeRead};
     ghost use Rattle.dk_engine.specs.Exact.{SlotBefore};
-    ghost use Rattle.dk_engine.specs.Levels.{Level};
+    ghost use Rattle.dk_engine.specs.Reading.Levels.{Level};
     ghost use Rattle.dk_engine.specs.Reading.{read_leaders};
 
     ghost Value = { Level };

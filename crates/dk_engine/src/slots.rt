@@ -3,16 +3,19 @@ ghost use Rattle.std.specs.Prelude.{◌≡◌, [], ◌∷◌, ◌++◌, false, L
 ghost use Rattle.std.specs.List.{list_any};
 ghost use Rattle.dk_base.specs.Values.{values_of};
 ghost use Rattle.dk_engine.specs.Feeding.{is_broken};
+ghost use Rattle.dk_engine.specs.Feeding.Narrow.{with_change, with_growth};
 ghost use Rattle.dk_engine.specs.Idle.{AreSkips, PassesStill, is_passed};
-ghost use Rattle.dk_engine.specs.Narrow.{with_change, with_growth};
-ghost use Rattle.dk_engine.specs.declared.slot.Slot.{Slot as KeptSlot};
+ghost use Rattle.dk_engine.specs.declared.slots.slot.Slot.{Slot as KeptSlot};
+
+pub(crate) mod places;
+pub(crate) mod slot;
 
 use crate::Slot;
-use crate::changes::{Change, SlotChanges};
-use crate::changing::is_broken;
-use crate::growing::{Growth, grow};
+use crate::feed::changes::{Change, SlotChanges};
+use crate::feed::changing::is_broken;
+use crate::feed::growing::{Growth, grow};
+use crate::idle::moves::Moves;
 use crate::idle::{Notes, is_passed, meets, notes_of};
-use crate::moves::Moves;
 use dk_base::{NoMemory, View};
 use std::alloc::Global;
 use std::marker::Model;
@@ -29,7 +32,7 @@ pub struct Slots {
 impl Model for Slots {
     ghost use Rattle.std.specs.Prelude.{List};
     ghost use Rattle.dk_engine.specs.Idle.{AreSkips};
-    ghost use Rattle.dk_engine.specs.declared.slot.Slot.{Slot};
+    ghost use Rattle.dk_engine.specs.declared.slots.slot.Slot.{Slot};
 
     ghost Value = { List Slot };
 

@@ -4,15 +4,20 @@ ghost use Rattle.dk_base.specs.declared.kinds.VarId.{VarId};
 ghost use Rattle.dk_template.specs.Templates.{IsRowOf, template_of};
 ghost use Rattle.dk_ternary.specs.Rows.{operation_row};
 ghost use Rattle.dk_engine.specs.Feeding.{read_after, slots_of, slots_of_row};
-ghost use Rattle.dk_engine.specs.Narrow.{freed_by_all};
-ghost use Rattle.dk_engine.specs.Suited.{suited_vars};
+ghost use Rattle.dk_engine.specs.Feeding.Narrow.{freed_by_all};
 ghost use Rattle.dk_engine.specs.Sweeps.{behind, considered, firsts, freed_slots, pairs, seconds, thirds, threes_with_one, threes_with_two, touched_slots, triples, twos_with_one, with_both, with_ends, with_one, with_two};
+ghost use Rattle.dk_engine.specs.Sweeps.Suited.{suited_vars};
 
-use crate::after::After;
-use crate::constant::are_known;
-use crate::operations::{breaks, descend};
-use crate::reaching::rows_reached;
-use crate::suited::{Suited, suited_one};
+pub(crate) mod counting;
+pub(crate) mod reaching;
+pub(crate) mod suited;
+pub(crate) mod touching;
+
+use crate::feed::after::After;
+use crate::feed::operations::{breaks, descend};
+use crate::over::constant::are_known;
+use crate::sweeps::reaching::rows_reached;
+use crate::sweeps::suited::{Suited, suited_one};
 use crate::{Slot, Slots};
 use dk_base::{NoMemory, VarId, VarInfo};
 use dk_constants::Constants;

@@ -9,7 +9,7 @@ use Rattle.std.proofs.lemmas.Result.{IfOk-weaker}
 use Rattle.dk_base.specs.declared.kinds.VarId.{VarId}
 use Rattle.dk_base.specs.declared.kinds.VarInfo.{VarInfo}
 use Rattle.dk_engine.proofs.SlotPlaces.{precedes_both, precedes_true, true_precedes}
-use Rattle.dk_engine.specs.Ordering.{precedes}
+use Rattle.dk_engine.specs.Sweeps.Ordering.{precedes}
 use Rattle.dk_filters.proofs.Asked.{admitted-there}
 use Rattle.dk_filters.specs.Facts.{info_at}
 use Rattle.dk_instances.specs.Instances.{ComesBefore, Precedes}

@@ -1,7 +1,7 @@
 // A text read as an assertion.
 ghost use Rattle.std.specs.Prelude.{◌≡◌, ◌↔◌, ◌⊎◌, ◌<◌, ◌≤◌, ◌^◌, Contains, IfNone, IfOk, IfSome, IsSomeAnd, IsTrue, List, length};
 ghost use Rattle.dk_base.specs.declared.kinds.VarId.{VarId};
-ghost use Rattle.dk_engine.specs.Ordering.{precedes as is_before};
+ghost use Rattle.dk_engine.specs.Sweeps.Ordering.{precedes as is_before};
 ghost use Rattle.dk_forms.specs.declared.states.State.{State};
 ghost use Rattle.dk_instances.specs.Instances.{Precedes};
 ghost use Rattle.dk_print.specs.Texts.{instance_text};

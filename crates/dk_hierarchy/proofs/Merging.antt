@@ -15,8 +15,8 @@ use Rattle.dk_base.specs.declared.values.Value.{Value}
 use Rattle.dk_base.specs.declared.values.Value.TheVariants as value
 use Rattle.dk_classes.specs.Classes.{kind_at, var_kinds}
 use Rattle.dk_engine.proofs.Readings.{agreement_read, counts_read, read_fits, row_is}
-use Rattle.dk_engine.specs.Levels.{Whole}
 use Rattle.dk_engine.specs.Reading.{count_read, state_read}
+use Rattle.dk_engine.specs.Reading.Levels.{Whole}
 use Rattle.dk_forms.specs.declared.states.State.TheVariants.{Empty}
 use Rattle.dk_instances.proofs.Fitting.{count_of_both, fit_of_both, fit_of_none, fit_of_set}
 use Rattle.dk_instances.proofs.Whole.{kind_alike}

@@ -13,8 +13,8 @@ use Rattle.dk_base.specs.declared.values.Value.{Value}
 use Rattle.dk_classes.proofs.OfKind.{kind_read}
 use Rattle.dk_classes.specs.Classes.{kind_at, var_kinds}
 use Rattle.dk_engine.proofs.Readings.{agree_read_is_agreement, reading_is_fit}
-use Rattle.dk_engine.specs.Levels.{Whole}
 use Rattle.dk_engine.specs.Reading.{agree_read, state_read}
+use Rattle.dk_engine.specs.Reading.Levels.{Whole}
 use Rattle.dk_filters.proofs.Agreeing.{agrees_is_agreement}
 use Rattle.dk_filters.proofs.Asked.{admitted-there, all-there}
 use Rattle.dk_filters.proofs.Lists.{any-same, find-same}

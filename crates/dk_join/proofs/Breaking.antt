@@ -17,8 +17,8 @@ use Rattle.dk_base.specs.declared.values.Value.TheVariants as value
 use Rattle.dk_classes.specs.Leaders.{var}
 use Rattle.dk_constants.specs.Known.{known_at}
 use Rattle.dk_engine.proofs.LevelFacts.{read_some}
-use Rattle.dk_engine.specs.Parts.{all_known, known_tuple, leader_of, slot_at}
 use Rattle.dk_engine.specs.Reading.{read_leaders, read_slot, state_of_one, state_read}
+use Rattle.dk_engine.specs.Reading.Parts.{all_known, known_tuple, leader_of, slot_at}
 use Rattle.dk_engine.specs.declared.kept.Kept.{Kept}
 use Rattle.dk_forms.specs.Plain.{plain_of}
 use Rattle.dk_forms.specs.declared.states.State.TheVariants.{Broken}

@@ -10,12 +10,12 @@ use Rattle.dk_base.specs.declared.kinds.VarInfo.{VarInfo}
 use Rattle.dk_constants.specs.Known.{Entries, known_at}
 use Rattle.dk_engine.proofs.LevelFacts.{read_some}
 use Rattle.dk_engine.specs.Feeding.{has_slot, is_broken}
-use Rattle.dk_engine.specs.Levels.{Whole}
-use Rattle.dk_engine.specs.Parts.{all_known, leader_of}
+use Rattle.dk_engine.specs.Reading.Levels.{Whole}
+use Rattle.dk_engine.specs.Reading.Parts.{all_known, leader_of}
 use Rattle.dk_engine.specs.Reading.{state_read}
 use Rattle.dk_engine.specs.Sweeps.{considered}
 use Rattle.dk_engine.specs.declared.kept.Kept.{Kept}
-use Rattle.dk_engine.specs.declared.slot.Slot.{Slot}
+use Rattle.dk_engine.specs.declared.slots.slot.Slot.{Slot}
 use Rattle.dk_forms.specs.Code.{code_known, code_state}
 use Rattle.dk_forms.specs.Greatest.{greatest_known, greatest_state}
 use Rattle.dk_forms.specs.Ints.{ints_known, ints_state}

@@ -7,7 +7,7 @@ use Rattle.dk_base.specs.declared.kinds.VarId.{VarId}
 use Rattle.dk_base.specs.declared.values.Value.{Value}
 use Rattle.dk_classes.specs.Leaders.{own_leaders}
 use Rattle.dk_engine.specs.Exact.{ArePatterns}
-use Rattle.dk_engine.specs.Parts.{leader_of}
+use Rattle.dk_engine.specs.Reading.Parts.{leader_of}
 use Rattle.dk_engine.specs.declared.kept.Kept.{Kept}
 use Rattle.dk_presence.proofs.Refining.{has-contains}
 use Rattle.dk_presence.proofs.Sameness.{same_vars-sym}

@@ -16,7 +16,7 @@ use Rattle.dk_classes.specs.Classes.{AreLeaders}
 use Rattle.dk_classes.specs.Leaders.{own_leaders}
 use Rattle.dk_constants.specs.Constants.{AreConstants, HasAlways}
 use Rattle.dk_constants.specs.Known.{Entries, EntriesAscend, entry_var_at, known_at}
-use Rattle.dk_engine.specs.Parts.{leader_of}
+use Rattle.dk_engine.specs.Reading.Parts.{leader_of}
 use Rattle.dk_engine.specs.declared.kept.Kept.{Kept}
 use Rattle.dk_presence.proofs.Refining.{contains-has, has-contains}
 use Rattle.dk_presence.proofs.Sameness.{ascend_rest, same_id}

@@ -10,7 +10,7 @@ use Rattle.dk_classes.proofs.Firsts.{first_same}
 use Rattle.dk_classes.proofs.OwnLeaders.{leads_from_own, own_from_leads}
 use Rattle.dk_classes.specs.Classes.{AreLeaders, InClass}
 use Rattle.dk_classes.specs.Leaders.{leader_at, own_leaders, var}
-use Rattle.dk_engine.specs.Parts.{leader_of}
+use Rattle.dk_engine.specs.Reading.Parts.{leader_of}
 use Rattle.dk_samples.specs.Samples.{Agree, value_in}
 use Rattle.dk_join.proofs.Lists.{all_parts}
 use Rattle.dk_join.specs.Joined.{AreJoinedLeaders, IsLedAlike}

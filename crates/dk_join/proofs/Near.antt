@@ -6,10 +6,10 @@ use Rattle.std.proofs.lemmas.Bool.{and_parts, eqb-true, false_from_ne_true, leb-
 use Rattle.dk_base.specs.declared.kinds.VarId.{VarId}
 use Rattle.dk_engine.proofs.LevelFacts.{level_is, read_some}
 use Rattle.dk_engine.specs.Exact.{SlotBefore}
-use Rattle.dk_engine.specs.Parts.{all_known, is_slot_of, known_tuple, leaders_of, slot_at}
 use Rattle.dk_engine.specs.Reading.{read_leaders, read_slot, read_written, state_of_one, state_read}
+use Rattle.dk_engine.specs.Reading.Parts.{all_known, is_slot_of, known_tuple, leaders_of, slot_at}
 use Rattle.dk_engine.specs.declared.kept.Kept.{Kept}
-use Rattle.dk_engine.specs.declared.slot.Slot.{Slot}
+use Rattle.dk_engine.specs.declared.slots.slot.Slot.{Slot}
 use Rattle.dk_forms.specs.declared.states.State.{State}
 use Rattle.dk_instances.specs.Instances.{Precedes}
 use Rattle.dk_presence.proofs.Sameness.{same_vars-true}

@@ -5,8 +5,8 @@ use Rattle.std.proofs.lemmas.List.Elements.{All-cons, All-nil}
 use Rattle.std.proofs.lemmas.Option.{slice_get-map}
 use Rattle.dk_base.specs.declared.kinds.VarId.{VarId}
 use Rattle.dk_base.specs.declared.kinds.VarInfo.{VarInfo}
-use Rattle.dk_engine.specs.Levels.{Whole}
 use Rattle.dk_engine.specs.Reading.{state_read}
+use Rattle.dk_engine.specs.Reading.Levels.{Whole}
 use Rattle.dk_template.proofs.WrittenTuples.{admitted_arity}
 use Rattle.dk_template.specs.Admitted.{admits}
 use Rattle.dk_template.specs.Fitting.{fits}

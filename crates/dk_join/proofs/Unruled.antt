@@ -11,11 +11,11 @@ use Rattle.dk_engine.proofs.LevelFacts.{level_is, read_some}
 use Rattle.dk_engine.proofs.Readings.{row_is}
 use Rattle.dk_engine.proofs.SlotPlaces.{earlier, place_missing, precedes_both, true_before, true_precedes}
 use Rattle.dk_engine.specs.Exact.{SlotBefore}
-use Rattle.dk_engine.specs.Ordering.{is_slot_before, precedes}
-use Rattle.dk_engine.specs.Parts.{all_known, is_slot_of, known_tuple, leader_of, leaders_of, slot_at}
 use Rattle.dk_engine.specs.Reading.{read_leaders, read_slot, read_written, state_of_one, state_read}
+use Rattle.dk_engine.specs.Reading.Parts.{all_known, is_slot_of, known_tuple, leader_of, leaders_of, slot_at}
+use Rattle.dk_engine.specs.Sweeps.Ordering.{is_slot_before, precedes}
 use Rattle.dk_engine.specs.declared.kept.Kept.{Kept}
-use Rattle.dk_engine.specs.declared.slot.Slot.{Slot}
+use Rattle.dk_engine.specs.declared.slots.slot.Slot.{Slot}
 use Rattle.dk_forms.specs.declared.states.State.TheVariants.{Broken}
 use Rattle.dk_presence.proofs.Sameness.{same_vars-true}
 use Rattle.dk_presence.specs.Patterns.{counted_by, same_vars}

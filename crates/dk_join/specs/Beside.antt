@@ -10,10 +10,10 @@ use Rattle.dk_template.specs.Premises.{row_of, suffices}
 use Rattle.dk_template.specs.declared.answers.Premise.{Premise}
 use Rattle.dk_template.specs.declared.answers.Premise.TheVariants.{Holds, LeastAtLeast, GreatestAtMost, Only}
 use Rattle.dk_template.specs.declared.grammar.RowId.{RowId}
-use Rattle.dk_engine.specs.Levels.{Whole}
-use Rattle.dk_engine.specs.Parts.{leader_of}
+use Rattle.dk_engine.specs.Reading.Levels.{Whole}
+use Rattle.dk_engine.specs.Reading.Parts.{leader_of}
 use Rattle.dk_engine.specs.declared.kept.Kept.{Kept}
-use Rattle.dk_engine.specs.declared.slot.Slot.{Slot}
+use Rattle.dk_engine.specs.declared.slots.slot.Slot.{Slot}
 use Rattle.dk_ternary.specs.declared.operation.Operation.{Operation}
 use Rattle.dk_join.specs.Joining.{Pair}
 use Rattle.dk_join.specs.Numbers.{are_broken, numbers_of}

@@ -12,10 +12,10 @@ use Rattle.dk_presence.specs.Patterns.{AreHeld, capped, has, pattern_count, same
 use Rattle.dk_presence.specs.declared.held.Held.{Held}
 use Rattle.dk_template.specs.declared.grammar.Grammar.{Grammar}
 use Rattle.dk_engine.specs.Feeding.{slots_of}
-use Rattle.dk_engine.specs.Parts.{leader_of}
+use Rattle.dk_engine.specs.Reading.Parts.{leader_of}
 use Rattle.dk_engine.specs.Saved.{parts_of}
 use Rattle.dk_engine.specs.declared.kept.Kept.{Kept}
-use Rattle.dk_engine.specs.declared.parts.Parts.{Parts}
+use Rattle.dk_engine.specs.declared.saved.parts.Parts.{Parts}
 use Rattle.dk_join.specs.Joining.{read_joined}
 
 -- ---- classes

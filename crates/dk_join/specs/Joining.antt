@@ -2,8 +2,8 @@
 use Rattle.std.specs.Prelude.{◌≡◌, ◌+◌, ◌&&◌, ℕ, Bool, List, length}
 use Rattle.dk_base.specs.declared.kinds.VarId.{VarId}
 use Rattle.dk_engine.specs.Exact.{AreOfPoint}
-use Rattle.dk_engine.specs.Levels.{Whole}
 use Rattle.dk_engine.specs.Reading.{agree_read, count_read, state_read}
+use Rattle.dk_engine.specs.Reading.Levels.{Whole}
 use Rattle.dk_engine.specs.declared.kept.Kept.{Kept}
 use Rattle.dk_forms.specs.declared.states.State.{State}
 use Rattle.dk_presence.specs.Patterns.{capped}

@@ -16,7 +16,7 @@ use Rattle.dk_template.specs.declared.grammar.RowId.{RowId}
 use Rattle.dk_engine.specs.Exact.{AreOfPoint, AreSamples, IsKeptOf}
 use Rattle.dk_engine.specs.Saved.{parts_of}
 use Rattle.dk_engine.specs.declared.kept.Kept.{Kept}
-use Rattle.dk_engine.specs.declared.parts.Parts.{Parts}
+use Rattle.dk_engine.specs.declared.saved.parts.Parts.{Parts}
 use Rattle.dk_join.specs.Joined.{AreJoinedParts, IsJoinOf}
 use Rattle.dk_join.specs.Joining.{agree_joined, count_joined, read_joined}
 

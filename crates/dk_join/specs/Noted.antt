@@ -1,10 +1,10 @@
 -- Which leaders have equal numbers, as it is noted.
 use Rattle.std.specs.Prelude.{◌&&◌, ◌||◌, ◌==◌, ◌∷◌, [], Bool, List, map, nat_lt}
 use Rattle.dk_base.specs.declared.kinds.VarId.{VarId}
-use Rattle.dk_engine.specs.Levels.{Whole}
-use Rattle.dk_engine.specs.Ordering.{precedes}
 use Rattle.dk_engine.specs.Reading.{state_read}
-use Rattle.dk_engine.specs.declared.slot.Slot.{Slot}
+use Rattle.dk_engine.specs.Reading.Levels.{Whole}
+use Rattle.dk_engine.specs.Sweeps.Ordering.{precedes}
+use Rattle.dk_engine.specs.declared.slots.slot.Slot.{Slot}
 use Rattle.dk_template.specs.Admitted.{admits}
 use Rattle.dk_template.specs.Fitting.{fits}
 use Rattle.dk_template.specs.Numbers as number

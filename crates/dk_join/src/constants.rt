@@ -2,7 +2,7 @@
 ghost use Rattle.std.specs.Prelude.{◌≡◌, ◌<◌, ◌++◌, ◌∷◌, [], All, IfOk, length, option_copied};
 ghost use Rattle.dk_base.specs.declared.kinds.VarId.{VarId};
 ghost use Rattle.dk_constants.specs.Known.{known_at};
-ghost use Rattle.dk_engine.specs.Parts.{all_known, leader_of};
+ghost use Rattle.dk_engine.specs.Reading.Parts.{all_known, leader_of};
 ghost use Rattle.dk_join.specs.Joined.{common_value, joined_known, known_in_both};
 
 use dk_base::{List, NoMemory, Value, VarId, same_kept};

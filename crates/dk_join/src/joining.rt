@@ -4,7 +4,7 @@ ghost use Rattle.dk_base.specs.declared.values.Value.{Value};
 ghost use Rattle.dk_engine.specs.Exact.{AreOfPoint, IsKeptOf};
 ghost use Rattle.dk_engine.specs.Feeding.{slots_of};
 ghost use Rattle.dk_engine.specs.Saved.{AreSavedParts, parts_of};
-ghost use Rattle.dk_engine.specs.declared.parts.Parts.{Parts as AllParts};
+ghost use Rattle.dk_engine.specs.declared.saved.parts.Parts.{Parts as AllParts};
 ghost use Rattle.dk_join.specs.Beside.{AreLed, HaveSamples};
 ghost use Rattle.dk_join.specs.Joined.{AreJoinedParts};
 ghost use Rattle.dk_join.specs.Joining.{AreAlike, AreOfOnePoint, read_joined};

@@ -1,7 +1,7 @@
 // The patterns of both engines, over the joined leaders.
 ghost use Rattle.std.specs.Prelude.{◌≡◌, ◌<◌, All, IfOk, length};
 ghost use Rattle.dk_base.specs.declared.kinds.VarId.{VarId};
-ghost use Rattle.dk_engine.specs.Parts.{leader_of};
+ghost use Rattle.dk_engine.specs.Reading.Parts.{leader_of};
 ghost use Rattle.dk_join.specs.Joined.{AreJoinedPatterns, present_with};
 ghost use Rattle.dk_join.specs.Tallies.{AreAdded};
 ghost use Rattle.dk_presence.specs.Patterns.{AreHeld, has};

@@ -2,7 +2,7 @@
 // room for it.
 ghost use Rattle.std.specs.Prelude.{◌≡◌, ◌≤◌, ◌++◌, [], ◌∷◌, false, All, IfOk, IfSome, IsTrue, filter, length, map};
 ghost use Rattle.dk_engine.specs.Feeding.{slots_of, slots_of_row};
-ghost use Rattle.dk_engine.specs.Suited.{suited_vars};
+ghost use Rattle.dk_engine.specs.Sweeps.Suited.{suited_vars};
 ghost use Rattle.dk_engine.specs.Sweeps.{behind, considered, firsts, pairs, seconds, thirds, triples};
 ghost use Rattle.dk_join.specs.Beside.{AreAtHand, AreLed, HaveSamples, IsCompanion, is_near};
 ghost use Rattle.dk_join.specs.Joining.{answer_of};
@@ -11,7 +11,7 @@ ghost use Rattle.dk_join.specs.Suited.{suited_to_some, suits_some};
 ghost use Rattle.dk_template.specs.Admitted.{admits, is_written};
 ghost use Rattle.dk_template.specs.Templates.{IsRowOf, arity_of};
 ghost use Rattle.dk_ternary.specs.Rows.{operation_row};
-ghost use Rattle.dk_engine.specs.Parts.{all_known};
+ghost use Rattle.dk_engine.specs.Reading.Parts.{all_known};
 
 use crate::beside::{Around, Companion, Hands, companions, has_room, is_beside_both, near};
 use crate::both::{Both, Places};

@@ -10,7 +10,7 @@ use Rattle.std.proofs.lemmas.Option.{slice_get-get_or}
 use Rattle.dk_base.specs.declared.values.Value.{Value}
 use Rattle.dk_derive.specs.Values.{values_by_form}
 use Rattle.dk_engine.specs.Exact.{AreOfPoint, AreSamples, IsKeptOf}
-use Rattle.dk_engine.specs.Levels.{Whole}
+use Rattle.dk_engine.specs.Reading.Levels.{Whole}
 use Rattle.dk_engine.specs.Saved.{AreSavedParts, parts_of}
 use Rattle.dk_engine.specs.declared.kept.Kept.{Kept}
 use Rattle.dk_instances.specs.Laws.{IsSample}

@@ -10,13 +10,13 @@ use Rattle.dk_classes.proofs.OwnLeaders.{own_ascend}
 use Rattle.dk_classes.specs.Leaders.{own_leaders}
 use Rattle.dk_engine.proofs.Saving.{counted_moved, is_with_held, with_held}
 use Rattle.dk_engine.specs.Feeding.{slots_of}
-use Rattle.dk_engine.specs.Levels.{Whole}
-use Rattle.dk_engine.specs.Parts.{all_known, known_tuple, leaders_of, slot_at}
+use Rattle.dk_engine.specs.Reading.Levels.{Whole}
+use Rattle.dk_engine.specs.Reading.Parts.{all_known, known_tuple, leaders_of, slot_at}
 use Rattle.dk_engine.specs.Reading.{rank_bound, read_leaders, read_slot, state_of_one, state_read}
-use Rattle.dk_engine.specs.Restored.{IsRearranged}
+use Rattle.dk_engine.specs.Saved.Restored.{IsRearranged}
 use Rattle.dk_engine.specs.Saved.{AreSavedParts, parts_of}
 use Rattle.dk_engine.specs.declared.kept.Kept.{Kept}
-use Rattle.dk_engine.specs.declared.parts.Parts.{Parts}
+use Rattle.dk_engine.specs.declared.saved.parts.Parts.{Parts}
 use Rattle.dk_forms.specs.declared.states.State.TheVariants.{Empty}
 use Rattle.dk_join.proofs.Determined.{joined_parts_are_determined}
 use Rattle.dk_join.specs.Joined.{AreJoinedParts, IsJoinOf, present_with}

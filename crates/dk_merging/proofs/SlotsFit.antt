@@ -4,11 +4,11 @@ use Rattle.std.proofs.Common.{arith, get_or}
 use Rattle.dk_base.specs.Numbers.{fits_i64}
 use Rattle.dk_base.specs.declared.kinds.VarInfo.{VarInfo}
 use Rattle.dk_classes.proofs.OwnLeaders.{leads_from_own}
-use Rattle.dk_engine.specs.Conditions.{CanBeFed}
 use Rattle.dk_engine.specs.Exact.{AreOfPoint}
-use Rattle.dk_engine.specs.Step.{IsPlaced}
+use Rattle.dk_engine.specs.Feeding.Step.{IsPlaced}
+use Rattle.dk_engine.specs.Saved.Conditions.{CanBeFed}
 use Rattle.dk_engine.specs.declared.kept.Kept.{Kept}
-use Rattle.dk_engine.specs.declared.slot.Slot.{Slot}
+use Rattle.dk_engine.specs.declared.slots.slot.Slot.{Slot}
 use Rattle.dk_forms.specs.Code.{IsCodeState}
 use Rattle.dk_forms.specs.Greatest.{IsGreatestState}
 use Rattle.dk_forms.specs.Ints.{IsIntsState}

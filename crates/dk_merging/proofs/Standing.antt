@@ -8,12 +8,12 @@ use Rattle.std.proofs.lemmas.List.FromFn.{get_or-map-range_with_len, length-map-
 use Rattle.std.proofs.lemmas.Option.{get_or_from_slice_get, slice_get-get_or, slice_get-map}
 use Rattle.dk_base.specs.declared.kinds.VarInfo.{VarInfo}
 use Rattle.dk_base.specs.declared.values.Value.{Value}
-use Rattle.dk_engine.specs.Conditions.{AreParts}
+use Rattle.dk_engine.specs.Saved.Conditions.{AreParts}
 use Rattle.dk_engine.specs.Exact.{AreOfPoint, AreSamples, IsKeptOf}
-use Rattle.dk_engine.specs.Levels.{Whole}
+use Rattle.dk_engine.specs.Reading.Levels.{Whole}
 use Rattle.dk_engine.specs.Saved.{parts_of}
 use Rattle.dk_engine.specs.declared.kept.Kept.{Kept}
-use Rattle.dk_engine.specs.declared.parts.Parts.{Parts}
+use Rattle.dk_engine.specs.declared.saved.parts.Parts.{Parts}
 use Rattle.dk_engine.proofs.PartsOfSamples.{kept_parts_meet}
 use Rattle.dk_engine.proofs.Saving.{kept_rearranged, open_can_be_fed, open_parts, shaped_parts}
 use Rattle.dk_graph.proofs.Places.{some-injective}

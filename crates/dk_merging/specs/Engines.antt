@@ -2,11 +2,11 @@
 use Rattle.std.specs.Prelude.{◌≡◌, ◌<◌, ◌≤◌, ◌+◌, ◌++◌, ◌^◌, Any, List, length}
 use Rattle.std.specs.List.{AllZip, zip}
 use Rattle.dk_base.specs.declared.values.Value.{Value}
-use Rattle.dk_engine.specs.Conditions.{CanBeFed}
 use Rattle.dk_engine.specs.Exact.{IsKeptOf}
-use Rattle.dk_engine.specs.Levels.{Whole}
+use Rattle.dk_engine.specs.Reading.Levels.{Whole}
 use Rattle.dk_engine.specs.Saved.{AreSavedParts, parts_of}
-use Rattle.dk_engine.specs.declared.parts.Parts.{Parts}
+use Rattle.dk_engine.specs.Saved.Conditions.{CanBeFed}
+use Rattle.dk_engine.specs.declared.saved.parts.Parts.{Parts}
 use Rattle.dk_join.specs.Joined.{AreJoinedParts}
 use Rattle.dk_join.specs.Joining.{AreAlike}
 use Rattle.dk_join.specs.Laws.{AreKeptOf}

@@ -1,7 +1,7 @@
 -- State files merged in any order and in any groups, and however they are read.
 use Rattle.std.specs.Prelude.{◌≡◌, ◌≢◌, ℕ, Bool, List, [], Result, Err, map, slice_index_or}
 use Rattle.std.specs.List.Sorted.{IsPermutation}
-use Rattle.dk_engine.specs.Levels.{Whole}
+use Rattle.dk_engine.specs.Reading.Levels.{Whole}
 use Rattle.dk_hierarchy.specs.Samples.{OwnSamples}
 use Rattle.dk_points.specs.Table.{Point}
 use Rattle.dk_state.specs.Spelling.{saved_parts}

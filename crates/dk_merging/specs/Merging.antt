@@ -1,7 +1,7 @@
 -- What two states say together.
 use Rattle.std.specs.Prelude.{◌≡◌, ◌≢◌, ◌≤◌, ◌+◌, ◌++◌, ◌^◌, ℕ, All, Bool, List, [], Result, Ok, Err, length, map, max, slice_index_or}
 use Rattle.std.specs.List.{range_with_len}
-use Rattle.dk_engine.specs.Levels.{Whole}
+use Rattle.dk_engine.specs.Reading.Levels.{Whole}
 use Rattle.dk_hierarchy.specs.Samples.{OwnSamples}
 use Rattle.dk_hierarchy.specs.Standing.{AreEnginesOf}
 use Rattle.dk_points.specs.Table.{Point}

@@ -1,7 +1,7 @@
 -- Slots whose numbers are within their types.
 use Rattle.std.specs.Prelude.{◌<◌, ◌^◌, All, IsTrue, List}
 use Rattle.dk_base.specs.Numbers.{fits_i64}
-use Rattle.dk_engine.specs.Levels.{Whole}
+use Rattle.dk_engine.specs.Reading.Levels.{Whole}
 use Rattle.dk_forms.specs.declared.states.State.{State}
 use Rattle.dk_forms.specs.declared.states.State.TheVariants as state
 use Rattle.dk_state.specs.Fitting.{FitsSlot}

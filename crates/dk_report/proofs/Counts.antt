@@ -8,8 +8,8 @@ use Rattle.std.proofs.lemmas.List.{get_or-replicate, get_or-set_other, get_or_pa
 use Rattle.std.proofs.lemmas.List.Folds.{list_any_none}
 use Rattle.std.proofs.lemmas.List.Sums.{sum_by_push}
 use Rattle.dk_base.specs.declared.kinds.VarId.{VarId}
-use Rattle.dk_engine.specs.Levels.{Whole}
 use Rattle.dk_engine.specs.Reading.{count_read}
+use Rattle.dk_engine.specs.Reading.Levels.{Whole}
 use Rattle.dk_hierarchy.specs.Merging.{Joint, count_through, engine_at}
 use Rattle.dk_hierarchy.specs.declared.way.Way.{Way}
 use Rattle.dk_presence.proofs.Sums.{counted_more}

@@ -6,8 +6,8 @@ use Rattle.std.proofs.lemmas.Bool.{and_from, and_parts, cases_Bool}
 use Rattle.std.proofs.Math.Nat.{mul-le-mul_right}
 use Rattle.std.proofs.lemmas.List.Sums.{sum_by-le-sum_by}
 use Rattle.dk_base.specs.declared.kinds.VarId.{VarId}
-use Rattle.dk_engine.specs.Parts.{leader_of, leaders_of}
 use Rattle.dk_engine.specs.Reading.{count_read}
+use Rattle.dk_engine.specs.Reading.Parts.{leader_of, leaders_of}
 use Rattle.dk_engine.specs.declared.kept.Kept.{Kept}
 use Rattle.dk_filters.specs.Answers.{Answers}
 use Rattle.dk_forms.specs.Laws.{IsIn}

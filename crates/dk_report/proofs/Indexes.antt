@@ -9,9 +9,9 @@ use Rattle.dk_base.specs.declared.kinds.VarId.{VarId}
 use Rattle.dk_bitmaps.specs.Bitmaps.{Indexed, told}
 use Rattle.dk_classes.proofs.OwnLeaders.{leads_from_own}
 use Rattle.dk_classes.specs.Leaders.{own_leaders}
-use Rattle.dk_engine.specs.Levels.{Whole}
-use Rattle.dk_engine.specs.Parts.{leader_of, leaders_of}
 use Rattle.dk_engine.specs.Reading.{count_read}
+use Rattle.dk_engine.specs.Reading.Levels.{Whole}
+use Rattle.dk_engine.specs.Reading.Parts.{leader_of, leaders_of}
 use Rattle.dk_engine.specs.declared.kept.Kept.{Kept}
 use Rattle.dk_hierarchy.specs.Edges.{partners_at}
 use Rattle.dk_hierarchy.specs.Merging.{Joint, count_through, engine_at}

@@ -13,9 +13,9 @@ use Rattle.dk_classes.specs.Leaders.{leader_at, own_leaders}
 use Rattle.dk_constants.specs.Known.{Entries, known_at}
 use Rattle.dk_engine.proofs.Readings.{constant_tuple, row_is}
 use Rattle.dk_engine.specs.Exact.{IsKeptOf}
-use Rattle.dk_engine.specs.Parts.{all_known, known_tuple}
+use Rattle.dk_engine.specs.Reading.Parts.{all_known, known_tuple}
 use Rattle.dk_engine.specs.declared.kept.Kept.{Kept}
-use Rattle.dk_engine.specs.declared.slot.Slot.{Slot}
+use Rattle.dk_engine.specs.declared.slots.slot.Slot.{Slot}
 use Rattle.dk_forms.specs.Laws.{IsIn}
 use Rattle.dk_forms.specs.declared.states.State.{State}
 use Rattle.dk_forms.specs.declared.states.State.TheVariants.{Broken, Empty}

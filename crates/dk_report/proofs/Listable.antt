@@ -5,7 +5,7 @@ use Rattle.std.proofs.lemmas.Bool.{and_parts}
 use Rattle.std.proofs.lemmas.List.Elements.{All-append, All-cons, All-contains_itself, All-filter, All-nil}
 use Rattle.dk_base.specs.declared.kinds.VarId.{VarId}
 use Rattle.dk_base.specs.declared.kinds.VarInfo.{VarInfo}
-use Rattle.dk_engine.specs.Suited.{suited_vars}
+use Rattle.dk_engine.specs.Sweeps.Suited.{suited_vars}
 use Rattle.dk_filters.proofs.Ascending.{candidates_are}
 use Rattle.dk_filters.specs.Answers.{Answers, Parent}
 use Rattle.dk_filters.specs.Candidates.{candidate_of, candidates_of, it_holds, candidates_kept}
@@ -20,7 +20,7 @@ use Rattle.dk_template.specs.declared.grammar.RowId.{RowId}
 use Rattle.dk_template.specs.declared.templates.Takes.{Takes}
 use Rattle.dk_template.specs.declared.templates.Takes.TheVariants.{One, Two, Three}
 use Rattle.dk_engine.specs.declared.kept.Kept.{Kept}
-use Rattle.dk_engine.specs.declared.slot.Slot.{Slot}
+use Rattle.dk_engine.specs.declared.slots.slot.Slot.{Slot}
 use Rattle.dk_report.specs.Asked.{candidates_equal, candidates_over, candidates_standing, here_of, listed_candidates_by, vars_for_row, views_of}
 use Rattle.dk_report.specs.Keeping.{keeps}
 use Rattle.dk_report.specs.Listing.{is_listed, listed_candidates, may_equal}

@@ -11,9 +11,9 @@ use Rattle.dk_base.specs.declared.values.Value.{Value}
 use Rattle.dk_classes.proofs.OwnLeaders.{leads_from_own}
 use Rattle.dk_classes.specs.Leaders.{leader_at, own_leaders}
 use Rattle.dk_engine.specs.Exact.{IsKeptOf, SlotBefore}
-use Rattle.dk_engine.specs.Parts.{all_known}
+use Rattle.dk_engine.specs.Reading.Parts.{all_known}
 use Rattle.dk_engine.specs.declared.kept.Kept.{Kept}
-use Rattle.dk_engine.specs.declared.slot.Slot.{Slot}
+use Rattle.dk_engine.specs.declared.slots.slot.Slot.{Slot}
 use Rattle.dk_filters.proofs.Asked.{admitted-there, facts_are_of_what_may_be_asked}
 use Rattle.dk_filters.specs.Answers.{Answers, Parent}
 use Rattle.dk_filters.specs.Candidates.{candidate_of, it_holds}

@@ -3,7 +3,7 @@ use Rattle.std.specs.Prelude.{◌≡◌, ◌&&◌, ◌==◌, ◌<◌, ℕ, Bool,
 use Rattle.std.proofs.Common.{ap, arith, ◌∙◌, inl, inr, subst, sym}
 use Rattle.std.proofs.lemmas.Bool.{and_cases, and_left, and_right, cases_Bool, eqb-false, eqb-true, lt-ltb}
 use Rattle.dk_base.specs.declared.kinds.VarId.{VarId}
-use Rattle.dk_engine.specs.Suited.{suited_vars}
+use Rattle.dk_engine.specs.Sweeps.Suited.{suited_vars}
 use Rattle.dk_filters.specs.Answers.{Answers, Parent}
 use Rattle.dk_filters.specs.Facts.{is_equality}
 use Rattle.dk_filters.specs.Found.{first_in, found_of}

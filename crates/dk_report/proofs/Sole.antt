@@ -13,7 +13,7 @@ use Rattle.dk_base.specs.declared.kinds.VarInfo.{VarInfo}
 use Rattle.dk_base.specs.declared.values.Value.{Value}
 use Rattle.dk_base.specs.declared.values.Value.TheVariants as value
 use Rattle.dk_engine.specs.Exact.{IsKeptOf}
-use Rattle.dk_engine.specs.Levels.{Whole}
+use Rattle.dk_engine.specs.Reading.Levels.{Whole}
 use Rattle.dk_filters.proofs.Asked.{admitted-there}
 use Rattle.dk_forms.specs.Laws.{IsIn}
 use Rattle.dk_graph.proofs.Places.{some-injective}

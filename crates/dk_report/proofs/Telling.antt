@@ -8,7 +8,7 @@ use Rattle.dk_base.specs.declared.kinds.VarInfo.{VarInfo}
 use Rattle.dk_base.specs.declared.values.Value.{Value}
 use Rattle.dk_classes.proofs.OfKind.{kind_read}
 use Rattle.dk_classes.specs.Classes.{kind_at, var_kinds}
-use Rattle.dk_engine.specs.Levels.{Whole}
+use Rattle.dk_engine.specs.Reading.Levels.{Whole}
 use Rattle.dk_filters.proofs.Agreeing.{agrees_is_agreement}
 use Rattle.dk_filters.proofs.Asked.{admitted-there, facts_are_of_what_may_be_asked, few-vars}
 use Rattle.dk_filters.specs.Answers.{Answers, Parent}

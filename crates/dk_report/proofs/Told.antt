@@ -11,10 +11,10 @@ use Rattle.dk_base.specs.declared.kinds.VarId.{VarId}
 use Rattle.dk_constants.specs.Known.{known_at}
 use Rattle.dk_engine.proofs.LostPremises.{broken_suffices_not}
 use Rattle.dk_engine.proofs.SlotLookups.{slot_found}
-use Rattle.dk_engine.specs.Parts.{all_known, known_tuple, slot_at}
 use Rattle.dk_engine.specs.Reading.{read_leaders, read_slot, read_written, state_of_one}
+use Rattle.dk_engine.specs.Reading.Parts.{all_known, known_tuple, slot_at}
 use Rattle.dk_engine.specs.declared.kept.Kept.{Kept}
-use Rattle.dk_engine.specs.declared.slot.Slot.{Slot}
+use Rattle.dk_engine.specs.declared.slots.slot.Slot.{Slot}
 use Rattle.dk_forms.specs.Laws.{IsIn}
 use Rattle.dk_forms.specs.declared.states.State.{State}
 use Rattle.dk_forms.specs.declared.states.State.TheVariants.{Broken}

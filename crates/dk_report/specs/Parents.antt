@@ -1,6 +1,6 @@
 -- The parents of a point in a table, with what answers for them.
 use Rattle.std.specs.Prelude.{◌≡◌, List, slice_get, Some}
-use Rattle.dk_engine.specs.Levels.{Whole}
+use Rattle.dk_engine.specs.Reading.Levels.{Whole}
 use Rattle.dk_filters.specs.Answers.{Parent}
 use Rattle.dk_filters.specs.declared.parents.ParentView.{ParentView}
 use Rattle.dk_graph.specs.declared.nodes.Edge.{Edge}

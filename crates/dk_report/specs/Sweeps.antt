@@ -2,7 +2,7 @@
 use Rattle.std.specs.Prelude.{Bool, List, [], ◌∷◌, flat_map, if◌then◌else◌}
 use Rattle.dk_base.specs.declared.kinds.VarId.{VarId}
 use Rattle.dk_base.specs.declared.kinds.VarInfo.{VarInfo}
-use Rattle.dk_engine.specs.Suited.{suited_vars}
+use Rattle.dk_engine.specs.Sweeps.Suited.{suited_vars}
 use Rattle.dk_filters.specs.declared.candidate.Candidate.{Candidate}
 use Rattle.dk_template.specs.declared.templates.Role.{Role}
 use Rattle.dk_template.specs.declared.templates.Takes.{Takes}

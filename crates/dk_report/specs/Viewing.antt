@@ -6,11 +6,11 @@ use Rattle.dk_base.specs.Pieces.{is_empty}
 use Rattle.dk_base.specs.Shapes.{var}
 use Rattle.dk_base.specs.declared.kinds.VarId.{VarId}
 use Rattle.dk_constants.specs.Known.{known_at}
-use Rattle.dk_engine.specs.Levels.{Whole}
-use Rattle.dk_engine.specs.Parts.{leader_of}
 use Rattle.dk_engine.specs.Reading.{rank_bound}
+use Rattle.dk_engine.specs.Reading.Levels.{Whole}
+use Rattle.dk_engine.specs.Reading.Parts.{leader_of}
 use Rattle.dk_engine.specs.declared.kept.Kept.{Kept}
-use Rattle.dk_engine.specs.declared.slot.Slot.{Slot}
+use Rattle.dk_engine.specs.declared.slots.slot.Slot.{Slot}
 use Rattle.dk_filters.specs.declared.candidate.Candidate.{Candidate}
 use Rattle.dk_forms.specs.Laws.{IsIn}
 use Rattle.dk_hierarchy.specs.Edges.{partner_at}

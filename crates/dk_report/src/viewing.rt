@@ -3,8 +3,8 @@
 ghost use Rattle.std.specs.Prelude.{◌≡◌, ◌==◌, ◌&&◌, ◌++◌, ◌||◌, [], ◌∷◌, All, List, IfOk, IfSome, filter, flat_map, is_some, map, slice_index_or, take};
 ghost use Rattle.std.specs.List.{list_any};
 ghost use Rattle.dk_base.specs.declared.kinds.VarId.{VarId as Variable};
-ghost use Rattle.dk_engine.specs.Levels.{Whole};
-ghost use Rattle.dk_engine.specs.Parts.{leader_of};
+ghost use Rattle.dk_engine.specs.Reading.Levels.{Whole};
+ghost use Rattle.dk_engine.specs.Reading.Parts.{leader_of};
 ghost use Rattle.dk_engine.specs.Reading.{rank_bound};
 ghost use Rattle.dk_constants.specs.Known.{known_at};
 ghost use Rattle.dk_instances.specs.Instances.{rows_of};

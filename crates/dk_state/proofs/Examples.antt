@@ -13,7 +13,7 @@ use Rattle.dk_decl.specs.declared.decls.ParentVar.{ParentVar}
 use Rattle.dk_decl.specs.declared.decls.PointDecl.{PointDecl}
 use Rattle.dk_decl.specs.declared.decls.VarDecl.{VarDecl}
 use Rattle.dk_engine.specs.declared.kept.Kept.{Kept}
-use Rattle.dk_engine.specs.declared.slot.Slot.{Slot}
+use Rattle.dk_engine.specs.declared.slots.slot.Slot.{Slot}
 use Rattle.dk_forms.specs.declared.states.State.{State}
 use Rattle.dk_forms.specs.declared.states.State.TheVariants.{Empty, Holds, Least, Greatest, Ints, Truth, Code, Texts, One, Modulus, Spot, Straight, Span, Plane, Offset}
 use Rattle.dk_points.specs.Table.{Point, declared_point, implicit_exit}

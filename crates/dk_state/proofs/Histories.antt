@@ -11,9 +11,9 @@ use Rattle.dk_base.specs.declared.values.Value.{Value}
 use Rattle.dk_derive.specs.Values.{values_by_form}
 use Rattle.dk_engine.proofs.Saving.{kept_parts_are_saved}
 use Rattle.dk_engine.specs.Exact.{AreSamples, IsKeptOf}
-use Rattle.dk_engine.specs.Levels.{Whole}
+use Rattle.dk_engine.specs.Reading.Levels.{Whole}
 use Rattle.dk_engine.specs.Saved.{parts_of}
-use Rattle.dk_engine.specs.declared.parts.Parts.{Parts}
+use Rattle.dk_engine.specs.declared.saved.parts.Parts.{Parts}
 use Rattle.dk_hierarchy.specs.Samples.{OwnSamples, all_vars_of, own_samples_of}
 use Rattle.dk_hierarchy.specs.Standing.{AreEnginesOf}
 use Rattle.dk_points.specs.Table.{Point, decl_at}

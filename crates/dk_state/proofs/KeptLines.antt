@@ -5,7 +5,7 @@ use Rattle.std.specs.List.{starts_with}
 use Rattle.std.proofs.Common.{◌∙◌, ap, append_assoc}
 use Rattle.std.proofs.lemmas.List.Concat.{flat_map-append}
 use Rattle.dk_base.specs.declared.kinds.VarId.{VarId}
-use Rattle.dk_engine.specs.declared.slot.Slot.{Slot}
+use Rattle.dk_engine.specs.declared.slots.slot.Slot.{Slot}
 use Rattle.dk_snapshot.specs.declared.known.Known.{Known}
 use Rattle.dk_snapshot.specs.declared.pattern.Pattern.{Pattern}
 use Rattle.dk_state.specs.Kept.{bits_of, if_any, known_line, pattern_line, slot_line}

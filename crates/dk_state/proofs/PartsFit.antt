@@ -12,7 +12,7 @@ use Rattle.dk_classes.proofs.OwnLeaders.{leads_from_own}
 use Rattle.dk_classes.specs.Leaders.{own_leaders, var}
 use Rattle.dk_constants.proofs.Determined.{entry_found}
 use Rattle.dk_engine.specs.Saved.{AreSavedParts}
-use Rattle.dk_engine.specs.declared.parts.Parts.{Parts}
+use Rattle.dk_engine.specs.declared.saved.parts.Parts.{Parts}
 use Rattle.dk_presence.specs.Patterns.{counted_by, has_all}
 use Rattle.dk_presence.specs.declared.held.Held.{Held}
 use Rattle.dk_snapshot.specs.Classes.{classes_of, members_of}

@@ -18,7 +18,7 @@ use Rattle.dk_engine.proofs.AnyOrder.{order_does_not_matter}
 use Rattle.dk_engine.proofs.DeterminedParts.{kept_parts_determined}
 use Rattle.dk_engine.specs.Exact.{IsKeptOf}
 use Rattle.dk_engine.specs.Laws.{AreSameParts}
-use Rattle.dk_engine.specs.Levels.{Whole}
+use Rattle.dk_engine.specs.Reading.Levels.{Whole}
 use Rattle.dk_engine.specs.Saved.{parts_of}
 use Rattle.dk_engine.specs.declared.kept.Kept.{Kept}
 use Rattle.dk_hierarchy.specs.Samples.{OwnSamples, all_vars_of, own_samples_of}

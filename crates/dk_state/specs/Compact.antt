@@ -10,7 +10,7 @@ use Rattle.dk_classes.specs.Leaders.{own_leaders, var}
 use Rattle.dk_constants.specs.Known.{Entries}
 use Rattle.dk_engine.specs.Feeding.{slots_of}
 use Rattle.dk_engine.specs.declared.kept.Kept.{Kept}
-use Rattle.dk_engine.specs.declared.slot.Slot.{Slot}
+use Rattle.dk_engine.specs.declared.slots.slot.Slot.{Slot}
 use Rattle.dk_filters.specs.OfSamples.{agrees}
 use Rattle.dk_instances.specs.Instances.{all_vars}
 use Rattle.dk_presence.specs.Patterns.{capped, present_in}

@@ -4,8 +4,8 @@ use Rattle.std.specs.Fmt.{decimal}
 use Rattle.dk_base.specs.Pieces.{is_empty}
 use Rattle.dk_base.specs.Spelling.{spelling}
 use Rattle.dk_base.specs.declared.kinds.VarId.{VarId}
-use Rattle.dk_engine.specs.declared.parts.Parts.{Parts}
-use Rattle.dk_engine.specs.declared.slot.Slot.{Slot}
+use Rattle.dk_engine.specs.declared.saved.parts.Parts.{Parts}
+use Rattle.dk_engine.specs.declared.slots.slot.Slot.{Slot}
 use Rattle.dk_snapshot.specs.declared.known.Known.{Known}
 use Rattle.dk_snapshot.specs.declared.pattern.Pattern.{Pattern}
 use Rattle.dk_state.specs.Lines.{state_line, var_fields}

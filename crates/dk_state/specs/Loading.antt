@@ -3,10 +3,10 @@ use Rattle.std.specs.Prelude.{◌≡◌, ℕ, List, [], ◌++◌, codes, flat_ma
 use Rattle.std.specs.List.{enumerate_from}
 use Rattle.dk_base.specs.declared.values.Value.{Value}
 use Rattle.dk_engine.specs.Exact.{AreOfPoint, AreSamples, IsKeptOf}
-use Rattle.dk_engine.specs.Levels.{Whole}
+use Rattle.dk_engine.specs.Reading.Levels.{Whole}
 use Rattle.dk_engine.specs.Saved.{parts_of}
 use Rattle.dk_engine.specs.declared.kept.Kept.{Kept}
-use Rattle.dk_engine.specs.declared.parts.Parts.{Parts}
+use Rattle.dk_engine.specs.declared.saved.parts.Parts.{Parts}
 use Rattle.dk_hierarchy.specs.Samples.{all_vars_of}
 use Rattle.dk_points.specs.Table.{Point}
 use Rattle.dk_template.specs.declared.grammar.Grammar.{Grammar}

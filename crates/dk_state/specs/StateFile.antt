@@ -1,7 +1,7 @@
 -- The state file of a history.
 use Rattle.std.specs.Prelude.{◌≡◌, ℕ, All, Bool, List, length, map}
 use Rattle.std.specs.List.{range_with_len}
-use Rattle.dk_engine.specs.Levels.{Whole}
+use Rattle.dk_engine.specs.Reading.Levels.{Whole}
 use Rattle.dk_hierarchy.specs.Samples.{OwnSamples, all_vars_of, own_samples_of}
 use Rattle.dk_hierarchy.specs.Standing.{AreEnginesOf, EnginesStandFor}
 use Rattle.dk_points.specs.Table.{Point}

@@ -4,7 +4,7 @@ ghost use Rattle.std.specs.Fmt.{decimal};
 ghost use Rattle.std.specs.List.{starts_with};
 ghost use Rattle.std.specs.Str.{bytes_eq};
 ghost use Rattle.dk_engine.specs.Saved.{AreSavedParts, parts_of};
-ghost use Rattle.dk_engine.specs.declared.parts.Parts.{Parts as AllParts};
+ghost use Rattle.dk_engine.specs.declared.saved.parts.Parts.{Parts as AllParts};
 ghost use Rattle.dk_hierarchy.specs.Samples.{OwnSamples, all_vars_of};
 ghost use Rattle.dk_hierarchy.specs.Standing.{AreEnginesOf};
 ghost use Rattle.dk_points.specs.Declaring.{declared};

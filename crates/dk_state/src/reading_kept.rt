@@ -6,7 +6,7 @@ ghost use Rattle.dk_base.specs.Spelling.{IsWritten, spelling};
 ghost use Rattle.dk_base.specs.Values.{IsOfKind};
 ghost use Rattle.dk_base.specs.declared.values.Value.{Value as Values};
 ghost use Rattle.dk_classes.specs.Classes.{kind_at, var_kinds};
-ghost use Rattle.dk_engine.specs.declared.parts.Parts.{Parts as AllParts};
+ghost use Rattle.dk_engine.specs.declared.saved.parts.Parts.{Parts as AllParts};
 ghost use Rattle.dk_template.specs.declared.grammar.RowId.{RowId as Row};
 ghost use Rattle.dk_state.specs.Fitting.{FitsClass, FitsKnown, FitsParts, FitsPattern, FitsPlace, FitsSlot};
 ghost use Rattle.dk_state.specs.Kept.{behind_samples, bits_of, class_line, if_any, known_line, pattern_line, slot_line};

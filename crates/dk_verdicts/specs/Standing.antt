@@ -3,7 +3,7 @@ use Rattle.std.specs.Prelude.{◌≡◌, ◌<◌, ◌≤◌, ◌⊎◌, ℕ, All
 use Rattle.std.specs.List.{AllZip}
 use Rattle.dk_blocks.specs.Fitting.{Extends}
 use Rattle.dk_claims.specs.declared.claims.Claim.{Claim}
-use Rattle.dk_engine.specs.Levels.{Whole}
+use Rattle.dk_engine.specs.Reading.Levels.{Whole}
 use Rattle.dk_expr.specs.Violations.{kept_state}
 use Rattle.dk_expr.specs.declared.assertions.Assertion.{Assertion}
 use Rattle.dk_instances.specs.Fits.{fit}

@@ -1,5 +1,5 @@
 use Rattle.std.proofs.Common.{◌≡◌, ◌+◌, rules, sym, subst, List, length}
-use Rattle.dk_engine.specs.Levels.{Whole}
+use Rattle.dk_engine.specs.Reading.Levels.{Whole}
 use Rattle.dk_core.proofs.Keeping.{AreGrowing, growing_more, growing_none}
 use Rattle.dk_core.proofs.kept.with_new.Goals as goal
 

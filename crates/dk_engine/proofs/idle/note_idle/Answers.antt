@@ -3,8 +3,8 @@ use Rattle.std.proofs.Common.{◌∙◌, arith, subst, sym}
 use Rattle.std.proofs.lemmas.List.{get_or_default}
 use Rattle.dk_engine.proofs.Passing.{notes_more}
 use Rattle.dk_engine.specs.Idle.{AreNotes, IsIdle}
-use Rattle.dk_engine.specs.Parts.{no_slot, slot_in}
-use Rattle.dk_engine.specs.declared.slot.Slot.{Slot}
+use Rattle.dk_engine.specs.Reading.Parts.{no_slot, slot_in}
+use Rattle.dk_engine.specs.declared.slots.slot.Slot.{Slot}
 use Rattle.dk_engine.proofs.idle.note_idle.Goals as goal
 
 pub note-requires : goal.note-requires

@@ -6,7 +6,7 @@ use Rattle.dk_classes.specs.Leaders.{own_leaders}
 use Rattle.dk_snapshot.specs.Restored.{HaveEntries, HaveMembers, HavePatterns}
 use Rattle.dk_engine.proofs.Saving.{entries_kept, have_all, members_kept, patterns_kept}
 use Rattle.dk_engine.specs.declared.kept.Kept.{Kept}
-use Rattle.dk_engine.specs.declared.parts.Parts.{Parts}
+use Rattle.dk_engine.specs.declared.saved.parts.Parts.{Parts}
 use Rattle.dk_engine.proofs.saved.kept_from.Goals as goal
 
 pub returns-in-None-2-clause-any : goal.returns-in-None-2-clause-any

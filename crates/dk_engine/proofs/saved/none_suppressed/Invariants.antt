@@ -1,6 +1,6 @@
 use Rattle.std.proofs.Common.{◌≡◌, ◌<◌, ℕ, false, get_or}
 use Rattle.dk_suppress.specs.Rules.{is_suppressed}
-use Rattle.dk_engine.specs.declared.slot.Slot.{Slot}
+use Rattle.dk_engine.specs.declared.slots.slot.Slot.{Slot}
 use Rattle.dk_engine.proofs.saved.none_suppressed.Given as goal
 
 abbrev pub invariant-loop-slot : goal.invariant-loop-slot

@@ -2,11 +2,11 @@ use Rattle.std.specs.Prelude.{◌≡◌, ℕ, false, List, fold}
 use Rattle.std.specs.List.{list_any}
 use Rattle.std.proofs.Common.{rules, subst, sym}
 use Rattle.dk_engine.proofs.Passing.{changes_unpassed, growths_unpassed, none_passed}
+use Rattle.dk_engine.specs.Feeding.Narrow.{with_change, with_growth}
 use Rattle.dk_engine.specs.Idle.{AreSkips, is_passed}
-use Rattle.dk_engine.specs.Narrow.{with_change, with_growth}
-use Rattle.dk_engine.specs.declared.changes.Change.{Change}
-use Rattle.dk_engine.specs.declared.changes.SlotChanges.{SlotChanges}
-use Rattle.dk_engine.specs.declared.growing.Growth.{Growth}
+use Rattle.dk_engine.specs.declared.feed.changes.Change.{Change}
+use Rattle.dk_engine.specs.declared.feed.changes.SlotChanges.{SlotChanges}
+use Rattle.dk_engine.specs.declared.feed.growing.Growth.{Growth}
 use Rattle.dk_engine.proofs.slots.keep_notes.Goals as goal
 
 pub returns-then-some_found_passed : goal.returns-then-some_found_passed

@@ -1,7 +1,7 @@
 use Rattle.std.specs.Prelude.{◌≡◌, drop}
 use Rattle.std.specs.List.{list_any}
 use Rattle.dk_engine.specs.Idle.{is_passed}
-use Rattle.dk_engine.specs.declared.growing.Growth.{Growth}
+use Rattle.dk_engine.specs.declared.feed.growing.Growth.{Growth}
 use Rattle.dk_engine.proofs.slots.some_grown_passed.Given as goal
 
 abbrev pub invariant-loop-growth : goal.invariant-loop-growth

@@ -1,6 +1,6 @@
 use Rattle.std.specs.Prelude.{◌≡◌, [], ◌∷◌, ℕ, List, length, slice_index}
 use Rattle.std.proofs.Common.{◌∙◌, ap, arith, subst, sym}
-use Rattle.dk_engine.specs.Levels.{Whole}
+use Rattle.dk_engine.specs.Reading.Levels.{Whole}
 use Rattle.dk_points.proofs.Nodes.{length-nodes}
 use Rattle.dk_hierarchy.proofs.Following.{at_first, ways_taken}
 use Rattle.dk_hierarchy.proofs.MoreWays.{above_all, above_below, above_last}

@@ -1,5 +1,5 @@
 use Rattle.std.specs.Prelude.{◌≡◌, drop}
-use Rattle.dk_engine.specs.Parts.{all_known}
+use Rattle.dk_engine.specs.Reading.Parts.{all_known}
 use Rattle.dk_join.proofs.constants.are_known.Given as goal
 
 abbrev pub invariant-loop-v : goal.invariant-loop-v

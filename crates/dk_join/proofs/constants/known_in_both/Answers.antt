@@ -1,7 +1,7 @@
 use Rattle.std.specs.Prelude.{option_copied}
 use Rattle.std.proofs.Common.{◌∙◌, ap}
 use Rattle.dk_constants.specs.Known.{known_at}
-use Rattle.dk_engine.specs.Parts.{leader_of}
+use Rattle.dk_engine.specs.Reading.Parts.{leader_of}
 use Rattle.dk_join.specs.Joined.{common_value}
 use Rattle.dk_join.proofs.constants.known_in_both.Goals as goal
 

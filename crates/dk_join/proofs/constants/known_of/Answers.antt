@@ -2,7 +2,7 @@ use Rattle.std.specs.Prelude.{◌≡◌}
 use Rattle.std.proofs.Common.{◌∙◌, ap}
 use Rattle.dk_classes.specs.Leaders.{leader_at, var}
 use Rattle.dk_constants.specs.Known.{Entries, known_at}
-use Rattle.dk_engine.specs.Parts.{leader_of}
+use Rattle.dk_engine.specs.Reading.Parts.{leader_of}
 use Rattle.dk_join.proofs.constants.known_of.Goals as goal
 
 pub returns : goal.returns

@@ -2,7 +2,7 @@ use Rattle.std.specs.Prelude.{◌≡◌, ◌<◌, ◌+◌, ◌++◌, [], ◌∷�
 use Rattle.std.proofs.Common.{◌∙◌, ap, arith, sym}
 use Rattle.std.proofs.lemmas.List.{append-nil, get_or_default}
 use Rattle.dk_base.specs.declared.kinds.VarId.{VarId}
-use Rattle.dk_engine.specs.Parts.{leader_of}
+use Rattle.dk_engine.specs.Reading.Parts.{leader_of}
 use Rattle.dk_join.proofs.Lists.{filter_step}
 use Rattle.dk_join.specs.Joined.{present_with}
 use Rattle.dk_presence.specs.Patterns.{has}

@@ -3,7 +3,7 @@ use Rattle.std.proofs.Common.{◌∙◌, ap, arith, get_or, subst, sym}
 use Rattle.std.proofs.lemmas.List.{take_all}
 use Rattle.std.proofs.lemmas.List.Kept.{AllPairs-filter}
 use Rattle.dk_base.specs.declared.kinds.VarId.{VarId}
-use Rattle.dk_engine.specs.Parts.{leader_of}
+use Rattle.dk_engine.specs.Reading.Parts.{leader_of}
 use Rattle.dk_join.proofs.Tallying.{times_more}
 use Rattle.dk_join.specs.Joined.{present_with, times_present}
 use Rattle.dk_presence.specs.Patterns.{capped, has, pattern_count}

@@ -2,7 +2,7 @@ use Rattle.std.specs.Prelude.{◌≡◌, All}
 use Rattle.std.proofs.Common.{arith, subst}
 use Rattle.std.proofs.lemmas.List.{take_all}
 use Rattle.dk_base.specs.declared.kinds.VarId.{VarId}
-use Rattle.dk_engine.specs.Parts.{leader_of}
+use Rattle.dk_engine.specs.Reading.Parts.{leader_of}
 use Rattle.dk_join.proofs.Unruled.{all_more}
 use Rattle.dk_join.proofs.threes.all_lead.Goals as goal
 

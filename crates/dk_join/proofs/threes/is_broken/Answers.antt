@@ -4,7 +4,7 @@ use Rattle.std.proofs.lemmas.Bool.{not-true}
 use Rattle.std.proofs.lemmas.List.Elements.{All-weaker}
 use Rattle.dk_base.specs.declared.kinds.VarId.{VarId}
 use Rattle.dk_engine.proofs.Leading.{admitted_there}
-use Rattle.dk_engine.specs.Parts.{all_known, slot_at}
+use Rattle.dk_engine.specs.Reading.Parts.{all_known, slot_at}
 use Rattle.dk_engine.specs.declared.kept.Kept.{Kept}
 use Rattle.dk_join.proofs.Unruled.{unruled_broken}
 use Rattle.dk_join.proofs.threes.is_broken.Goals as goal

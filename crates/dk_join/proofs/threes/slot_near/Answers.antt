@@ -1,8 +1,8 @@
 use Rattle.std.specs.Prelude.{Some, ◌∷◌, []}
 use Rattle.std.proofs.Common.{◌∙◌, ap, sym}
 use Rattle.std.proofs.lemmas.List.{get_or_default}
-use Rattle.dk_engine.specs.Parts.{is_slot_of}
-use Rattle.dk_engine.specs.declared.slot.Slot.{Slot}
+use Rattle.dk_engine.specs.Reading.Parts.{is_slot_of}
+use Rattle.dk_engine.specs.declared.slots.slot.Slot.{Slot}
 use Rattle.dk_join.proofs.Near.{slot_at_place}
 use Rattle.dk_join.proofs.threes.slot_near.Goals as goal
 

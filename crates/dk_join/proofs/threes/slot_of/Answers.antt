@@ -6,9 +6,9 @@ use Rattle.dk_base.specs.declared.kinds.VarId.{VarId}
 use Rattle.dk_classes.specs.Leaders.{leader_at, var}
 use Rattle.dk_engine.proofs.Leading.{admitted_there}
 use Rattle.dk_engine.proofs.WellKept.{slot_proper}
-use Rattle.dk_engine.specs.Parts.{all_known, leader_of, leaders_of, slot_at}
+use Rattle.dk_engine.specs.Reading.Parts.{all_known, leader_of, leaders_of, slot_at}
 use Rattle.dk_engine.specs.declared.kept.Kept.{Kept}
-use Rattle.dk_engine.specs.declared.slot.Slot.{Slot}
+use Rattle.dk_engine.specs.declared.slots.slot.Slot.{Slot}
 use Rattle.dk_template.specs.Admitted.{is_written}
 use Rattle.dk_join.proofs.Near.{slot_read}
 use Rattle.dk_join.proofs.threes.slot_of.Goals as goal

@@ -2,7 +2,7 @@ use Rattle.std.specs.Prelude.{◌≡◌, ◌++◌, ◌∷◌, [], Any, Err, List
 use Rattle.std.specs.List.{AllZip, zip}
 use Rattle.std.proofs.Common.{◌∙◌, ap, append-nil, append_assoc, arith, inl, inr, rules, subst, sym}
 use Rattle.std.proofs.lemmas.Result.{err_from_is_err_and}
-use Rattle.dk_engine.specs.Levels.{Whole}
+use Rattle.dk_engine.specs.Reading.Levels.{Whole}
 use Rattle.dk_join.specs.declared.joining.JoinFault.{JoinFault}
 use Rattle.dk_join.specs.declared.joining.JoinFault.TheVariants as fault
 use Rattle.dk_merging.specs.Engines.{AreAllAlike, HaveNoJoin, IsEngineOfBoth}

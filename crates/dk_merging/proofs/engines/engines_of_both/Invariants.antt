@@ -1,6 +1,6 @@
 use Rattle.std.specs.Prelude.{◌≡◌, ◌++◌}
 use Rattle.std.specs.List.{AllZip, zip}
-use Rattle.dk_engine.specs.Levels.{Whole}
+use Rattle.dk_engine.specs.Reading.Levels.{Whole}
 use Rattle.dk_merging.specs.Engines.{AreAllAlike, IsEngineOfBoth}
 use Rattle.dk_merging.proofs.engines.engines_of_both.Given as goal
 

@@ -1,7 +1,7 @@
 use Rattle.std.specs.Prelude.{All, Err, List, refl}
 use Rattle.std.proofs.Common.{ap, subst}
 use Rattle.std.proofs.lemmas.Result.{err_from_is_err_and}
-use Rattle.dk_engine.specs.Levels.{Whole}
+use Rattle.dk_engine.specs.Reading.Levels.{Whole}
 use Rattle.dk_join.specs.declared.joining.JoinFault.{JoinFault}
 use Rattle.dk_merging.specs.Engines.{IsSound}
 use Rattle.dk_merging.specs.Numbers.{AreWithin}

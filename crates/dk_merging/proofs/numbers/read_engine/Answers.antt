@@ -1,6 +1,6 @@
 use Rattle.std.specs.Prelude.{All}
 use Rattle.std.proofs.Common.{subst}
-use Rattle.dk_engine.specs.declared.slot.Slot.{Slot}
+use Rattle.dk_engine.specs.declared.slots.slot.Slot.{Slot}
 use Rattle.dk_merging.specs.Numbers.{AreNumbersWithin}
 use Rattle.dk_merging.proofs.SlotsFit.{slots_fit}
 use Rattle.dk_merging.proofs.numbers.read_engine.Goals as goal

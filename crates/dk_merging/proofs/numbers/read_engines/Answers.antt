@@ -2,7 +2,7 @@ use Rattle.std.specs.Prelude.{◌≡◌, ◌<◌, ◌+◌, ℕ, All, List, lengt
 use Rattle.std.proofs.Common.{◌∙◌, arith, get_or, inl, inr, subst}
 use Rattle.std.proofs.lemmas.Bool.{cases_lt}
 use Rattle.std.proofs.lemmas.List.{get_or_default}
-use Rattle.dk_engine.specs.Levels.{Whole}
+use Rattle.dk_engine.specs.Reading.Levels.{Whole}
 use Rattle.dk_state.specs.Fitting.{FitsSlot}
 use Rattle.dk_merging.specs.Engines.{IsSound}
 use Rattle.dk_merging.proofs.numbers.read_engines.Goals as goal

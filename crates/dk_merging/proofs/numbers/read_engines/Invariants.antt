@@ -1,6 +1,6 @@
 use Rattle.std.specs.Prelude.{◌<◌, ℕ, All}
 use Rattle.std.proofs.Common.{get_or}
-use Rattle.dk_engine.specs.Levels.{Whole}
+use Rattle.dk_engine.specs.Reading.Levels.{Whole}
 use Rattle.dk_state.specs.Fitting.{FitsSlot}
 use Rattle.dk_merging.specs.Engines.{IsSound}
 use Rattle.dk_merging.proofs.numbers.read_engines.Given as goal

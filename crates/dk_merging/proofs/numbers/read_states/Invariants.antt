@@ -1,6 +1,6 @@
 use Rattle.std.specs.Prelude.{◌<◌, ℕ}
 use Rattle.std.proofs.Common.{get_or}
-use Rattle.dk_engine.specs.declared.slot.Slot.{Slot}
+use Rattle.dk_engine.specs.declared.slots.slot.Slot.{Slot}
 use Rattle.dk_merging.specs.Numbers.{AreNumbersWithin}
 use Rattle.dk_merging.proofs.numbers.read_states.Given as goal
 

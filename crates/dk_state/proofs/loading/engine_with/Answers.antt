@@ -8,7 +8,7 @@ use Rattle.dk_derive.specs.Vars.{with_derived_vars}
 use Rattle.dk_engine.specs.Exact.{AreOfPoint, AreSamples, IsKeptOf}
 use Rattle.dk_engine.specs.Saved.{AreSavedParts, parts_of}
 use Rattle.dk_engine.specs.declared.kept.Kept.{Kept}
-use Rattle.dk_engine.specs.declared.parts.Parts.{Parts}
+use Rattle.dk_engine.specs.declared.saved.parts.Parts.{Parts}
 use Rattle.dk_engine.specs.declared.saved.PartsFault.{PartsFault}
 use Rattle.dk_hierarchy.proofs.OfPoint.{of_point}
 use Rattle.dk_hierarchy.specs.Samples.{all_vars_of}

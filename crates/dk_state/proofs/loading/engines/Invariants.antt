@@ -1,7 +1,7 @@
 use Rattle.std.proofs.Common.{◌≡◌, ℕ, List, Option, Some, drop, length}
 use Rattle.std.specs.Prelude.{slice_get}
-use Rattle.dk_engine.specs.Levels.{Whole}
-use Rattle.dk_engine.specs.declared.parts.Parts.{Parts}
+use Rattle.dk_engine.specs.Reading.Levels.{Whole}
+use Rattle.dk_engine.specs.declared.saved.parts.Parts.{Parts}
 use Rattle.dk_hierarchy.proofs.TableEngines.{AreFirst}
 use Rattle.dk_state.specs.Loading.{AreSaved, IsLoadedAs, saved_blocks}
 use Rattle.dk_state.specs.Spelling.{IsSavedAt}

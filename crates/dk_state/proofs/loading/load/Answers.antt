@@ -2,7 +2,7 @@ use Rattle.std.specs.Prelude.{◌≡◌, All, map}
 use Rattle.std.proofs.Common.{◌∙◌, subst, sym}
 use Rattle.std.proofs.lemmas.Bool.{false≢true}
 use Rattle.std.proofs.lemmas.Slice.Eq.{bytes_eq-Decides}
-use Rattle.dk_engine.specs.Levels.{Whole}
+use Rattle.dk_engine.specs.Reading.Levels.{Whole}
 use Rattle.dk_hierarchy.specs.Standing.{AreEnginesOf}
 use Rattle.dk_state.specs.Saved.{saved_text}
 use Rattle.dk_state.specs.Spelling.{content_of}

@@ -4,7 +4,7 @@ use Rattle.std.specs.List.{starts_with}
 use Rattle.std.proofs.Common.{◌∙◌, ap, arith, subst, sym}
 use Rattle.std.proofs.lemmas.Bool.{false≢true}
 use Rattle.dk_engine.specs.Exact.{IsKeptOf}
-use Rattle.dk_engine.specs.Levels.{Whole}
+use Rattle.dk_engine.specs.Reading.Levels.{Whole}
 use Rattle.dk_state.specs.Kept.{behind_samples}
 use Rattle.dk_state.specs.Lines.{behind_blank}
 use Rattle.dk_state.specs.Loading.{saved_blocks}

@@ -1,6 +1,6 @@
 use Rattle.std.proofs.Common.{◌≡◌, map, take}
 use Rattle.std.specs.List.{enumerate_from, flat_map}
-use Rattle.dk_engine.specs.Levels.{Whole}
+use Rattle.dk_engine.specs.Reading.Levels.{Whole}
 use Rattle.dk_state.specs.Matching.{left_behind}
 use Rattle.dk_state.specs.Saved.{kept_lines}
 use Rattle.dk_state.proofs.matching.pass_engines.Given as goal

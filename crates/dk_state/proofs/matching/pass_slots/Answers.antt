@@ -1,5 +1,5 @@
 use Rattle.std.proofs.Common.{◌∙◌, ap}
-use Rattle.dk_engine.specs.declared.slot.Slot.{Slot}
+use Rattle.dk_engine.specs.declared.slots.slot.Slot.{Slot}
 use Rattle.std.specs.Prelude.{List, flat_map}
 use Rattle.dk_state.specs.Kept.{slot_line}
 use Rattle.dk_state.specs.Matching.{left_behind}

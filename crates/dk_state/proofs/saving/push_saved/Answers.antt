@@ -2,7 +2,7 @@ use Rattle.std.specs.Prelude.{◌≡◌, ◌++◌, ◌∷◌, [], ℕ, List, OnO
 use Rattle.std.specs.Fmt.{decimal}
 use Rattle.std.specs.List.{enumerate_from}
 use Rattle.std.proofs.Common.{◌∙◌, ap, subst}
-use Rattle.dk_engine.specs.Levels.{Whole}
+use Rattle.dk_engine.specs.Reading.Levels.{Whole}
 use Rattle.dk_state.specs.Declarations.{decls_of, point_lines}
 use Rattle.dk_state.specs.Lines.{state_line}
 use Rattle.dk_state.specs.Saved.{comparability_text, kept_lines, saved_text, version_of}

@@ -1,5 +1,5 @@
 use Rattle.std.proofs.Common.{◌≡◌, ◌+◌, arith, length, rules, subst, sym, List}
-use Rattle.dk_engine.specs.Levels.{Whole}
+use Rattle.dk_engine.specs.Reading.Levels.{Whole}
 use Rattle.dk_verdicts.proofs.Engines.{AreFirstUnfed, all_unfed, one_engine_more, those_known}
 use Rattle.dk_verdicts.proofs.reading.add_engines.Goals as goal
 

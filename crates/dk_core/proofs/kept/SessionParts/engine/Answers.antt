@@ -1,5 +1,5 @@
 use Rattle.std.proofs.Common.{◌≡◌, ◌∙◌, ap, arith, length, slice_get, sym, subst, Some}
-use Rattle.dk_engine.specs.Levels.{Whole}
+use Rattle.dk_engine.specs.Reading.Levels.{Whole}
 use Rattle.dk_core.proofs.Keeping.{all_get, got}
 use Rattle.dk_core.proofs.Taking.{engine_stands}
 use Rattle.dk_blocks.specs.Standing.{points_of as points_in}

@@ -2,7 +2,7 @@ use Rattle.std.proofs.Common.{◌≡◌, ◌∙◌, ◌<◌, arith, length, refl
 use Rattle.std.proofs.lemmas.List.Elements.{All-set}
 use Rattle.dk_base.specs.Values.{values_of}
 use Rattle.dk_base.specs.declared.faults.Fault.{Fault}
-use Rattle.dk_engine.specs.Levels.{Whole}
+use Rattle.dk_engine.specs.Reading.Levels.{Whole}
 use Rattle.dk_blocks.specs.Finding.{FoundFits, outcome_of}
 use Rattle.dk_blocks.specs.History.{Nothing, Samples}
 use Rattle.dk_blocks.specs.Standing.{ReaderStandsFor, left_behind, points_of as points_in}

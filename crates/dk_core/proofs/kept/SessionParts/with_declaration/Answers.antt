@@ -1,6 +1,6 @@
 use Rattle.std.proofs.Common.{ap, arith, length, subst, sym, List, Ok}
 use Rattle.std.proofs.lemmas.Result.{err_from_is_err_and}
-use Rattle.dk_engine.specs.Levels.{Whole}
+use Rattle.dk_engine.specs.Reading.Levels.{Whole}
 use Rattle.dk_points.specs.Table.{Point}
 use Rattle.dk_blocks.proofs.Growing.{more_points}
 use Rattle.dk_blocks.specs.History.{with_declaration}

@@ -3,8 +3,8 @@ use Rattle.std.proofs.Common.{ap, subst, sym}
 use Rattle.dk_base.specs.Values.{values_of}
 use Rattle.dk_base.specs.declared.values.Value.{Value}
 use Rattle.dk_engine.specs.Idle.{PassesStill}
-use Rattle.dk_engine.specs.Levels.{OneMore, Whole}
-use Rattle.dk_engine.specs.declared.slot.Slot.{Slot}
+use Rattle.dk_engine.specs.Reading.Levels.{OneMore, Whole}
+use Rattle.dk_engine.specs.declared.slots.slot.Slot.{Slot}
 use Rattle.dk_engine.proofs.engine.Engine.all_changes.Goals as goal
 
 pub changes-requires-clause-skips : goal.changes-requires-clause-skips

@@ -10,10 +10,10 @@ use Rattle.dk_presence.specs.declared.held.Held.{Held}
 use Rattle.dk_engine.proofs.Emptied.{parts, patterns_out, same_parts}
 use Rattle.dk_engine.proofs.Leaving.{left_formed}
 use Rattle.dk_engine.proofs.StillFed.{can_be_fed_after}
-use Rattle.dk_engine.specs.Conditions.{CanBeFed}
 use Rattle.dk_engine.specs.Feeding.{IsTurned, parts_after, read_after, unchanged_now}
-use Rattle.dk_engine.specs.Levels.{Whole}
-use Rattle.dk_engine.specs.Narrow.{AreFound, outcome, slots_left}
+use Rattle.dk_engine.specs.Feeding.Narrow.{AreFound, outcome, slots_left}
+use Rattle.dk_engine.specs.Reading.Levels.{Whole}
+use Rattle.dk_engine.specs.Saved.Conditions.{CanBeFed}
 use Rattle.dk_engine.proofs.engine.Engine.change.Goals as goal
 
 pub invariant_of-self : goal.invariant_of-self

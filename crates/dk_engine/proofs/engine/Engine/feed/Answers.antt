@@ -7,9 +7,9 @@ use Rattle.dk_engine.proofs.Grown.{found_begin, found_lose, of_some}
 use Rattle.dk_engine.proofs.Settling.{settled_parts_exact}
 use Rattle.dk_engine.specs.Exact.{AreSamples, IsKeptOf}
 use Rattle.dk_engine.specs.Feeding.{IsTurned, parts_after, read_after, unchanged_now}
-use Rattle.dk_engine.specs.Narrow.{AreFound, IsGrowth, IsShut, found_changes, outcome, slots_left}
-use Rattle.dk_engine.specs.Levels.{Whole}
-use Rattle.dk_engine.specs.declared.changes.SlotChanges.{SlotChanges}
+use Rattle.dk_engine.specs.Feeding.Narrow.{AreFound, IsGrowth, IsShut, found_changes, outcome, slots_left}
+use Rattle.dk_engine.specs.Reading.Levels.{Whole}
+use Rattle.dk_engine.specs.declared.feed.changes.SlotChanges.{SlotChanges}
 use Rattle.dk_engine.specs.declared.kept.Kept.{Kept}
 use Rattle.dk_engine.proofs.engine.Engine.feed.Goals as goal
 

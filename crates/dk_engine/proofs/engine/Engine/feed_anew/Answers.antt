@@ -11,12 +11,12 @@ use Rattle.dk_engine.proofs.Grown.{all_behind, found_lost, found_within}
 use Rattle.dk_engine.proofs.Opened.{merged_parts_exact}
 use Rattle.dk_engine.specs.Exact.{AreOfPoint, AreSamples, IsKeptOf}
 use Rattle.dk_engine.specs.Feeding.{parts_after, read_after}
-use Rattle.dk_engine.specs.Narrow.{AreFound, IsChange, IsMergedStep, change_by, found_changes, loses_by, lost_places, outcome}
-use Rattle.dk_engine.specs.Levels.{Whole}
-use Rattle.dk_engine.specs.declared.changes.Change.{Change}
-use Rattle.dk_engine.specs.declared.changes.SlotChanges.{SlotChanges}
+use Rattle.dk_engine.specs.Feeding.Narrow.{AreFound, IsChange, IsMergedStep, change_by, found_changes, loses_by, lost_places, outcome}
+use Rattle.dk_engine.specs.Reading.Levels.{Whole}
+use Rattle.dk_engine.specs.declared.feed.changes.Change.{Change}
+use Rattle.dk_engine.specs.declared.feed.changes.SlotChanges.{SlotChanges}
 use Rattle.dk_engine.specs.declared.kept.Kept.{Kept}
-use Rattle.dk_engine.specs.declared.slot.Slot.{Slot}
+use Rattle.dk_engine.specs.declared.slots.slot.Slot.{Slot}
 use Rattle.dk_engine.proofs.engine.Engine.feed_anew.Goals as goal
 
 -- the lost places, of changes that are the same

@@ -4,9 +4,9 @@ use Rattle.dk_base.specs.Values.{values_of}
 use Rattle.dk_base.specs.declared.values.Value.{Value}
 use Rattle.dk_engine.proofs.Grown.{found_within, of_some}
 use Rattle.dk_engine.specs.Idle.{PassesStill}
-use Rattle.dk_engine.specs.Levels.{OneMore, Whole}
-use Rattle.dk_engine.specs.declared.changes.Change.{Change}
-use Rattle.dk_engine.specs.declared.slot.Slot.{Slot}
+use Rattle.dk_engine.specs.Reading.Levels.{OneMore, Whole}
+use Rattle.dk_engine.specs.declared.feed.changes.Change.{Change}
+use Rattle.dk_engine.specs.declared.slots.slot.Slot.{Slot}
 use Rattle.dk_engine.proofs.engine.Engine.few_changes.Goals as goal
 
 pub few_changes-requires-clause-skips : goal.few_changes-requires-clause-skips

@@ -3,7 +3,7 @@ use Rattle.std.proofs.Common.{subst, sym}
 use Rattle.dk_engine.proofs.PartsOfSamples.{kept_parts_meet}
 use Rattle.dk_engine.proofs.Saving.{have_parts, kept_rearranged, parts_rearranged}
 use Rattle.dk_engine.specs.Exact.{IsKeptOf}
-use Rattle.dk_engine.specs.Restored.{HaveParts, IsRearranged}
+use Rattle.dk_engine.specs.Saved.Restored.{HaveParts, IsRearranged}
 use Rattle.dk_engine.proofs.engine.Engine.from_parts.Goals as goal
 
 pub returns-in-Some-2-clause-stands : goal.returns-in-Some-2-clause-stands

@@ -5,7 +5,7 @@ use Rattle.dk_instances.specs.Laws.{IsSample}
 use Rattle.dk_engine.proofs.Beginning.{is_nothing, nothing, nothing_kept}
 use Rattle.dk_engine.proofs.Turned.{parts_can_be_fed}
 use Rattle.dk_engine.proofs.PartsOfSamples.{parts_of_kept}
-use Rattle.dk_engine.specs.Conditions.{CanBeFed}
+use Rattle.dk_engine.specs.Saved.Conditions.{CanBeFed}
 use Rattle.dk_engine.specs.declared.kept.Kept.{Kept}
 use Rattle.dk_engine.proofs.engine.Engine.new.Goals as goal
 

@@ -2,11 +2,11 @@ use Rattle.std.specs.Prelude.{◌≡◌, ◌++◌}
 use Rattle.std.proofs.Common.{ap, ◌∙◌, rules}
 use Rattle.dk_base.specs.Values.{values_of}
 use Rattle.dk_classes.specs.Leaders.{own_leaders}
-use Rattle.dk_engine.specs.Choices.{other_leaders, touching_leaders}
 use Rattle.dk_engine.specs.Feeding.{read_after}
-use Rattle.dk_engine.specs.Levels.{Whole}
-use Rattle.dk_engine.specs.Narrow.{freed_by_all, opened_slots}
+use Rattle.dk_engine.specs.Feeding.Narrow.{freed_by_all, opened_slots}
+use Rattle.dk_engine.specs.Reading.Levels.{Whole}
 use Rattle.dk_engine.specs.Sweeps.{touched_slots}
+use Rattle.dk_engine.specs.Sweeps.Choices.{other_leaders, touching_leaders}
 use Rattle.dk_engine.proofs.engine.Engine.opened_slots.Goals as goal
 
 pub returns : goal.returns

@@ -10,9 +10,9 @@ use Rattle.dk_presence.specs.declared.held.Held.{Held}
 use Rattle.dk_engine.proofs.Emptied.{parts, patterns_out, same_parts}
 use Rattle.dk_engine.proofs.StillFed.{can_be_fed_after}
 use Rattle.dk_engine.proofs.Turned.{unheld}
-use Rattle.dk_engine.specs.Conditions.{AreFormed, CanBeFed}
 use Rattle.dk_engine.specs.Feeding.{IsTurned}
-use Rattle.dk_engine.specs.Levels.{Whole}
+use Rattle.dk_engine.specs.Reading.Levels.{Whole}
+use Rattle.dk_engine.specs.Saved.Conditions.{AreFormed, CanBeFed}
 use Rattle.dk_engine.proofs.engine.Engine.set_parts.Goals as goal
 
 pub held_after-requires-clause-unheld : goal.held_after-requires-clause-unheld

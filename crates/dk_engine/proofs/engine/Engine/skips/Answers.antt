@@ -1,7 +1,7 @@
 use Rattle.std.proofs.Common.{subst}
 use Rattle.dk_base.specs.Values.{values_of}
 use Rattle.dk_engine.specs.Idle.{PassesStill}
-use Rattle.dk_engine.specs.Levels.{Whole}
+use Rattle.dk_engine.specs.Reading.Levels.{Whole}
 use Rattle.dk_engine.proofs.engine.Engine.skips.Goals as goal
 
 pub returns : goal.returns

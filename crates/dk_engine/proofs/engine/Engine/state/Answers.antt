@@ -13,11 +13,11 @@ use Rattle.dk_engine.proofs.LevelFacts.{constants_read, read_none, read_some}
 use Rattle.dk_engine.proofs.Opened.{has_vars}
 use Rattle.dk_engine.proofs.Readings.{row_is}
 use Rattle.dk_engine.proofs.WellKept.{constants_proper, constants_tuple}
-use Rattle.dk_engine.specs.Conditions.{CanBeFed}
 use Rattle.dk_engine.specs.Exact.{AreOfPoint}
-use Rattle.dk_engine.specs.Levels.{Whole}
-use Rattle.dk_engine.specs.Parts.{all_known, known_tuple, leaders_of}
 use Rattle.dk_engine.specs.Reading.{read_leaders, state_of_one, state_read}
+use Rattle.dk_engine.specs.Reading.Levels.{Whole}
+use Rattle.dk_engine.specs.Reading.Parts.{all_known, known_tuple, leaders_of}
+use Rattle.dk_engine.specs.Saved.Conditions.{CanBeFed}
 use Rattle.dk_engine.proofs.engine.Engine.state.Goals as goal
 
 -- a row admits the leaders of variables that it admits

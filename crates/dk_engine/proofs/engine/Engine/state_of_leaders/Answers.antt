@@ -2,8 +2,8 @@ use Rattle.std.specs.Prelude.{◌≡◌, true}
 use Rattle.std.proofs.Common.{ap, ◌∙◌, subst, sym}
 use Rattle.std.proofs.lemmas.Result.{IfOk-weaker}
 use Rattle.dk_template.specs.Admitted.{admits}
-use Rattle.dk_engine.specs.Levels.{Level, Whole}
 use Rattle.dk_engine.specs.Reading.{read_leaders}
+use Rattle.dk_engine.specs.Reading.Levels.{Level, Whole}
 use Rattle.dk_engine.proofs.engine.Engine.state_of_leaders.Goals as goal
 
 pub state-requires-clause-vars : goal.state-requires-clause-vars

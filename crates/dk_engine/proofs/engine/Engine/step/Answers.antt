@@ -7,13 +7,13 @@ use Rattle.dk_instances.specs.Laws.{IsSample}
 use Rattle.dk_engine.proofs.Emptied.{parts, slots_out, turned_with}
 use Rattle.dk_engine.proofs.Leaving.{left_formed}
 use Rattle.dk_engine.proofs.Opened.{left_numbered, merged_formed, opened_numbered}
-use Rattle.dk_engine.specs.Conditions.{CanBeFed}
 use Rattle.dk_engine.specs.Exact.{SlotBefore}
 use Rattle.dk_engine.specs.Feeding.{IsTurned, parts_after, read_after}
-use Rattle.dk_engine.specs.Levels.{Whole}
-use Rattle.dk_engine.specs.Merged.{AreTogether, HasNumber}
-use Rattle.dk_engine.specs.Narrow.{AreFound, IsMergedStep, opened_slots, outcome, slots_left}
-use Rattle.dk_engine.specs.declared.slot.Slot.{Slot}
+use Rattle.dk_engine.specs.Feeding.Merged.{AreTogether, HasNumber}
+use Rattle.dk_engine.specs.Feeding.Narrow.{AreFound, IsMergedStep, opened_slots, outcome, slots_left}
+use Rattle.dk_engine.specs.Reading.Levels.{Whole}
+use Rattle.dk_engine.specs.Saved.Conditions.{CanBeFed}
+use Rattle.dk_engine.specs.declared.slots.slot.Slot.{Slot}
 use Rattle.dk_engine.proofs.engine.Engine.step.Goals as goal
 
 pub merge_slots-requires-clause-ascend : goal.merge_slots-requires-clause-ascend

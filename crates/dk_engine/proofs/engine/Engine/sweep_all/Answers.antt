@@ -4,10 +4,10 @@ use Rattle.std.proofs.lemmas.Result.{IfOk-weaker}
 use Rattle.dk_base.specs.Values.{values_of}
 use Rattle.dk_classes.specs.Leaders.{own_leaders}
 use Rattle.dk_engine.proofs.StillFed.{swept_formed}
-use Rattle.dk_engine.specs.Conditions.{AreFormed, CanBeFed}
 use Rattle.dk_engine.specs.Exact.{AreOfPoint}
 use Rattle.dk_engine.specs.Feeding.{read_after, slots_of}
-use Rattle.dk_engine.specs.Levels.{Whole}
+use Rattle.dk_engine.specs.Reading.Levels.{Whole}
+use Rattle.dk_engine.specs.Saved.Conditions.{AreFormed, CanBeFed}
 use Rattle.dk_engine.proofs.engine.Engine.sweep_all.Goals as goal
 
 pub returns-clause-formed : goal.returns-clause-formed

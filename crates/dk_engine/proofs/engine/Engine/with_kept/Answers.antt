@@ -5,7 +5,7 @@ use Rattle.dk_base.specs.declared.kinds.VarInfo.{VarInfo}
 use Rattle.dk_presence.specs.declared.held.Held.{Held}
 use Rattle.dk_samples.specs.Leaders.{VarsAscend}
 use Rattle.dk_engine.proofs.Saving.{open_can_be_fed, open_parts, parts_from_open}
-use Rattle.dk_engine.specs.Restored.{AreOpen}
+use Rattle.dk_engine.specs.Saved.Restored.{AreOpen}
 use Rattle.dk_engine.proofs.engine.Engine.with_kept.Goals as goal
 
 pub bitmaps-requires-clause-ascend : goal.bitmaps-requires-clause-ascend

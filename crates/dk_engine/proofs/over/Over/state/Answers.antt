@@ -6,9 +6,9 @@ use Rattle.dk_template.specs.Proper.{IsProper}
 use Rattle.dk_template.specs.Templates.{form_of}
 use Rattle.dk_engine.proofs.LevelFacts.{written_read}
 use Rattle.dk_engine.proofs.WellKept.{read_written_proper}
-use Rattle.dk_engine.specs.Conditions.{CanBeRead}
-use Rattle.dk_engine.specs.Levels.{Level}
 use Rattle.dk_engine.specs.Reading.{read_leaders, read_written}
+use Rattle.dk_engine.specs.Reading.Levels.{Level}
+use Rattle.dk_engine.specs.Saved.Conditions.{CanBeRead}
 use Rattle.dk_engine.proofs.over.Over.state.Goals as goal
 
 pub returns-then-is_written-clause-state : goal.returns-then-is_written-clause-state

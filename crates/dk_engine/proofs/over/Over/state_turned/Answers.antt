@@ -8,9 +8,9 @@ use Rattle.dk_template.specs.Templates.{form_of}
 use Rattle.dk_engine.proofs.LevelFacts.{level_is}
 use Rattle.dk_engine.proofs.Readings.{row_is}
 use Rattle.dk_engine.proofs.WellKept.{read_written_proper}
-use Rattle.dk_engine.specs.Conditions.{CanBeRead}
-use Rattle.dk_engine.specs.Levels.{Level}
 use Rattle.dk_engine.specs.Reading.{read_leaders, read_written}
+use Rattle.dk_engine.specs.Reading.Levels.{Level}
+use Rattle.dk_engine.specs.Saved.Conditions.{CanBeRead}
 use Rattle.dk_engine.proofs.over.Over.state_turned.Goals as goal
 
 pub state_written-requires-clause-vars : goal.state_written-requires-clause-vars

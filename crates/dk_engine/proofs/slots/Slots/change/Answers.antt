@@ -1,12 +1,12 @@
 use Rattle.std.specs.Prelude.{◌≡◌, List, fold, length}
 use Rattle.std.proofs.Common.{◌∙◌, ap, rules, subst, sym}
 use Rattle.dk_engine.proofs.Placed.{found_all, with_found}
+use Rattle.dk_engine.specs.Feeding.Narrow.{with_change, with_growth}
 use Rattle.dk_engine.specs.Idle.{AreSkips}
-use Rattle.dk_engine.specs.Narrow.{with_change, with_growth}
-use Rattle.dk_engine.specs.declared.changes.Change.{Change}
-use Rattle.dk_engine.specs.declared.changes.SlotChanges.{SlotChanges}
-use Rattle.dk_engine.specs.declared.growing.Growth.{Growth}
-use Rattle.dk_engine.specs.declared.slot.Slot.{Slot}
+use Rattle.dk_engine.specs.declared.feed.changes.Change.{Change}
+use Rattle.dk_engine.specs.declared.feed.changes.SlotChanges.{SlotChanges}
+use Rattle.dk_engine.specs.declared.feed.growing.Growth.{Growth}
+use Rattle.dk_engine.specs.declared.slots.slot.Slot.{Slot}
 use Rattle.dk_engine.proofs.slots.Slots.change.Goals as goal
 
 pub invariant_of-self : goal.invariant_of-self

@@ -3,7 +3,7 @@ use Rattle.std.proofs.Common.{◌∙◌, rules, subst, sym}
 use Rattle.dk_base.specs.Values.{values_of}
 use Rattle.dk_engine.proofs.Passing.{none_passes, passes_still}
 use Rattle.dk_engine.specs.Idle.{PassesStill, meets}
-use Rattle.dk_engine.specs.declared.slot.Slot.{Slot}
+use Rattle.dk_engine.specs.declared.slots.slot.Slot.{Slot}
 use Rattle.dk_engine.proofs.slots.Slots.skips.Goals as goal
 
 pub returns-then-meets : goal.returns-then-meets

@@ -1,6 +1,6 @@
 use Rattle.std.specs.Prelude.{◌≡◌, ◌++◌, take}
 use Rattle.dk_engine.specs.Feeding.{read_after}
-use Rattle.dk_engine.specs.Narrow.{freed_by_all}
+use Rattle.dk_engine.specs.Feeding.Narrow.{freed_by_all}
 use Rattle.dk_engine.proofs.sweeps.Sweep.freed_by_all.Given as goal
 
 abbrev pub invariant-loop-place : goal.invariant-loop-place

@@ -6,7 +6,7 @@ use Rattle.dk_template.specs.declared.grammar.RowId.{RowId}
 use Rattle.dk_engine.proofs.ReachedRows.{reached_rows}
 use Rattle.dk_engine.specs.Feeding.{read_after}
 use Rattle.dk_engine.specs.Sweeps.{freed_slots, with_both}
-use Rattle.dk_engine.specs.declared.slot.Slot.{Slot}
+use Rattle.dk_engine.specs.declared.slots.slot.Slot.{Slot}
 use Rattle.dk_engine.proofs.sweeps.Sweep.freed_slots.Goals as goal
 
 pub with_both-requires-clause-row : goal.with_both-requires-clause-row

@@ -8,7 +8,7 @@ use Rattle.dk_engine.proofs.Spread.{row_more, rows_all}
 use Rattle.dk_engine.proofs.Swept.{none_touched}
 use Rattle.dk_engine.specs.Feeding.{read_after}
 use Rattle.dk_engine.specs.Sweeps.{touched_slots, with_one}
-use Rattle.dk_engine.specs.declared.slot.Slot.{Slot}
+use Rattle.dk_engine.specs.declared.slots.slot.Slot.{Slot}
 use Rattle.dk_engine.proofs.sweeps.Sweep.touched_slots.Goals as goal
 
 pub loop-n-preserved : goal.loop-n-preserved

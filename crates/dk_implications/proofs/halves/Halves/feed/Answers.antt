@@ -1,7 +1,7 @@
 use Rattle.std.specs.Prelude.{◌≡◌, true, false}
 use Rattle.std.proofs.Common.{◌∙◌, ap, sym}
 use Rattle.dk_base.specs.Values.{values_of}
-use Rattle.dk_engine.specs.Levels.{Whole}
+use Rattle.dk_engine.specs.Reading.Levels.{Whole}
 use Rattle.dk_report.proofs.Reported.{if_ok}
 use Rattle.dk_samples.specs.Samples.{value_in}
 use Rattle.dk_implications.proofs.Feeding.{Takes, engine_fed, fed_neither, fed_when_false, fed_when_true}

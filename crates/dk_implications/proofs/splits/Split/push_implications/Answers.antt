@@ -1,7 +1,7 @@
 use Rattle.std.specs.Prelude.{◌≡◌, ◌++◌, ℕ, All, List, flat_map, length}
 use Rattle.std.proofs.Common.{ap, append_assoc, subst, sym, ◌∙◌}
 use Rattle.dk_base.specs.declared.values.Value.{Value}
-use Rattle.dk_engine.specs.Levels.{Whole}
+use Rattle.dk_engine.specs.Reading.Levels.{Whole}
 use Rattle.dk_hierarchy.specs.Standing.{EngineStandsFor}
 use Rattle.dk_presence.specs.Patterns.{capped}
 use Rattle.dk_print.specs.Sections.{heading}

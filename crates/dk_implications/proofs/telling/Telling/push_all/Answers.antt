@@ -1,6 +1,6 @@
 use Rattle.std.specs.Prelude.{◌<◌, length}
 use Rattle.std.proofs.Common.{subst, sym}
-use Rattle.dk_engine.specs.Levels.{Whole}
+use Rattle.dk_engine.specs.Reading.Levels.{Whole}
 use Rattle.dk_print.proofs.Pieces.{one_more}
 use Rattle.dk_implications.proofs.Lines.{conditions_there}
 use Rattle.dk_implications.specs.Standing.{AreOver, HalvesStandFor}

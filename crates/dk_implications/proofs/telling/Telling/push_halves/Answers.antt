@@ -1,7 +1,7 @@
 use Rattle.std.specs.Prelude.{◌≡◌, ◌++◌, List, flat_map, false}
 use Rattle.std.proofs.Common.{sym, ◌∙◌}
 use Rattle.dk_base.specs.declared.values.Value.{Value}
-use Rattle.dk_engine.specs.Levels.{Whole}
+use Rattle.dk_engine.specs.Reading.Levels.{Whole}
 use Rattle.dk_hierarchy.specs.Standing.{EngineStandsFor}
 use Rattle.dk_implications.proofs.Lines.{both_told, conditions_there, none_told, on_ok}
 use Rattle.dk_implications.specs.Implications.{implied_by}

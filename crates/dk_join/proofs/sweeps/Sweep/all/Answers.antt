@@ -5,7 +5,7 @@ use Rattle.dk_template.specs.declared.grammar.RowId.{RowId}
 use Rattle.dk_engine.proofs.Spread.{row_more, rows_all}
 use Rattle.dk_join.specs.Joining.{answer_of}
 use Rattle.dk_engine.specs.Feeding.{slots_of, slots_of_row}
-use Rattle.dk_engine.specs.declared.slot.Slot.{Slot}
+use Rattle.dk_engine.specs.declared.slots.slot.Slot.{Slot}
 use Rattle.dk_join.proofs.sweeps.Sweep.all.Goals as goal
 
 pub loop-n-preserved : goal.loop-n-preserved

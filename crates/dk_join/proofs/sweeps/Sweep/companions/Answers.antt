@@ -3,8 +3,8 @@ use Rattle.std.proofs.Common.{◌∙◌, ap, subst, sym}
 use Rattle.std.proofs.lemmas.List.Elements.{All-map}
 use Rattle.std.proofs.lemmas.Result.{IfOk-weaker}
 use Rattle.dk_base.specs.declared.kinds.VarId.{VarId}
-use Rattle.dk_engine.specs.Levels.{Whole}
-use Rattle.dk_engine.specs.declared.slot.Slot.{Slot}
+use Rattle.dk_engine.specs.Reading.Levels.{Whole}
+use Rattle.dk_engine.specs.declared.slots.slot.Slot.{Slot}
 use Rattle.std.specs.Borrow.{Bor}
 use Rattle.dk_join.proofs.Companions.{leaders_of_all}
 use Rattle.dk_join.specs.Beside.{IsCompanion, is_beside, slots_at_hand, stands_beside}

@@ -3,7 +3,7 @@ use Rattle.std.proofs.Common.{◌∙◌, ap, append-nil, arith, sym}
 use Rattle.dk_base.specs.declared.kinds.VarId.{VarId}
 use Rattle.dk_engine.proofs.Readings.{row_is}
 use Rattle.dk_engine.specs.Sweeps.{considered}
-use Rattle.dk_engine.specs.declared.slot.Slot.{Slot}
+use Rattle.dk_engine.specs.declared.slots.slot.Slot.{Slot}
 use Rattle.dk_join.proofs.Companions.{none_considered}
 use Rattle.dk_join.proofs.Lists.{mapped_more}
 use Rattle.dk_join.specs.Joining.{answer_of}

@@ -3,7 +3,7 @@ use Rattle.std.proofs.Common.{◌∙◌, ap, subst, sym}
 use Rattle.std.proofs.lemmas.List.Elements.{All-filter}
 use Rattle.std.proofs.lemmas.Result.{IfOk-weaker}
 use Rattle.dk_engine.specs.Sweeps.{thirds}
-use Rattle.dk_engine.specs.declared.slot.Slot.{Slot}
+use Rattle.dk_engine.specs.declared.slots.slot.Slot.{Slot}
 use Rattle.dk_join.proofs.Companions.{near_are_all}
 use Rattle.dk_join.specs.Beside.{IsCompanion, is_near}
 use Rattle.dk_join.specs.Joining.{answer_of}

@@ -1,6 +1,6 @@
 use Rattle.std.specs.Prelude.{◌≡◌, All, List, flat_map}
 use Rattle.std.proofs.Common.{◌∙◌, subst, sym}
-use Rattle.dk_engine.specs.Levels.{Whole}
+use Rattle.dk_engine.specs.Reading.Levels.{Whole}
 use Rattle.dk_filters.specs.Candidates.{candidates_kept, candidates_of}
 use Rattle.dk_filters.specs.declared.candidate.Candidate.{Candidate}
 use Rattle.dk_hierarchy.specs.Standing.{EnginesStandFor}

@@ -5,7 +5,7 @@ use Rattle.std.proofs.Common.{◌∙◌, ap}
 use Rattle.std.proofs.lemmas.List.Elements.{filter_agree}
 use Rattle.dk_base.specs.declared.kinds.VarId.{VarId}
 use Rattle.dk_constants.specs.Known.{Entries}
-use Rattle.dk_engine.specs.declared.slot.Slot.{Slot}
+use Rattle.dk_engine.specs.declared.slots.slot.Slot.{Slot}
 use Rattle.dk_presence.specs.Patterns.{has}
 use Rattle.dk_report.proofs.Reported.{if_ok}
 use Rattle.dk_report.specs.Narrowing.{is_fixed, is_left, is_of_row, stands_in}

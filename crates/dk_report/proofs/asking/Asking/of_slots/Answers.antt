@@ -2,7 +2,7 @@ use Rattle.std.specs.Prelude.{◌≡◌, ◌++◌, List, filter, flat_map, map}
 use Rattle.std.specs.Borrow.{Bor}
 use Rattle.std.proofs.Common.{◌∙◌, ap, sym}
 use Rattle.std.proofs.lemmas.List.Folds.{flat_map-map}
-use Rattle.dk_engine.specs.declared.slot.Slot.{Slot}
+use Rattle.dk_engine.specs.declared.slots.slot.Slot.{Slot}
 use Rattle.dk_filters.specs.declared.candidate.Candidate.{Candidate}
 use Rattle.dk_report.proofs.Reported.{if_ok}
 use Rattle.dk_report.specs.Asked.{listed_candidates_by}

@@ -1,7 +1,7 @@
 use Rattle.std.specs.Prelude.{◌≡◌, ◌<◌, [], ◌∷◌, All, List}
 use Rattle.std.proofs.Common.{◌∙◌, ap, subst, sym}
 use Rattle.dk_base.specs.declared.values.Value.{Value}
-use Rattle.dk_engine.specs.Levels.{Whole}
+use Rattle.dk_engine.specs.Reading.Levels.{Whole}
 use Rattle.dk_hierarchy.specs.Merging.{Joint}
 use Rattle.dk_hierarchy.specs.Standing.{EngineStandsFor, JointStandsFor}
 use Rattle.dk_hierarchy.specs.declared.way.Way.{Way}

@@ -1,5 +1,5 @@
 use Rattle.std.proofs.Common.{◌≡◌, ◌∙◌, ◌++◌, arith, ap, sym, slice_get, List, ℕ, Some}
-use Rattle.dk_engine.specs.Levels.{Whole}
+use Rattle.dk_engine.specs.Reading.Levels.{Whole}
 use Rattle.dk_events.proofs.Followed.{got}
 use Rattle.dk_hierarchy.specs.Samples.{own_samples_of}
 use Rattle.dk_split.proofs.Sections.{none_written, on_ok, some_written}

@@ -1,9 +1,0 @@
-use Rattle.std.proofs.Common.{◌≡◌, ◌<◌, ◌^◌, take}
-use Rattle.dk_engine.specs.Bitmaps.{digits}
-use Rattle.dk_engine.proofs.bitmaps.same_word.Given as goal
-
-abbrev pub invariant-loop : goal.invariant-loop
-invariant-loop l = record {
-  so_far : l.bits ≡ digits (λ _. l.present) (take l.index l.block);
-  fits : l.bits < 2 ^ l.index;
-}

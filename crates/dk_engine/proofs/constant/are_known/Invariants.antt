@@ -1,6 +1,0 @@
-use Rattle.std.specs.Prelude.{◌≡◌, drop}
-use Rattle.dk_engine.specs.Parts.{all_known}
-use Rattle.dk_engine.proofs.constant.are_known.Given as goal
-
-abbrev pub invariant-loop-v : goal.invariant-loop-v
-invariant-loop-v l = all_known l.known (drop l.v-index l.vars) ≡ all_known l.known l.vars

@@ -1,0 +1,24 @@
+use Rattle.std.specs.Prelude.{◌≡◌, ℤ, true}
+use Rattle.std.proofs.Common.{rules}
+use Rattle.dk_forms.proofs.PlaneFacts.{point_of_limit}
+use Rattle.dk_forms.specs.Plane.{IsPoint, are_aligned, in_space, is_before}
+use Rattle.dk_engine.proofs.Stretches.{after_of, grown_stretch}
+use Rattle.dk_engine.proofs.feed.growing.reaches.Goals as goal
+
+pub is_on_line-requires-clause-point : goal.is_on_line-requires-clause-point
+is_on_line-requires-clause-point c =
+    let v : ℤ × ℤ × ℤ = (c.args.x, c.args.y, c.args.z) in
+    let near : in_space v ≡ true = search rules in
+    let point : IsPoint v = point_of_limit v near in
+    search (rules, point)
+
+pub returns-then-is_in_space : goal.returns-then-is_in_space
+returns-then-is_in_space c fits =
+    let p : ℤ × ℤ × ℤ = (c.args.x1, c.args.y1, c.args.z1) in
+    let q : ℤ × ℤ × ℤ = (c.args.x2, c.args.y2, c.args.z2) in
+    let v : ℤ × ℤ × ℤ = (c.args.x, c.args.y, c.args.z) in
+    let near : in_space v ≡ true = search rules in
+    let after : is_before q v ≡ true = after_of v q c.requires.after in
+    let on : are_aligned p v q ≡ true = search rules in
+    let made = grown_stretch p q v c.requires.stretch near after on in
+    search (rules, made)

@@ -1,9 +1,0 @@
-use Rattle.std.specs.Prelude.{[], ◌∷◌}
-use Rattle.std.proofs.Common.{arith}
-use Rattle.dk_engine.proofs.Memories.{on_err, other_row, strings_in_tuple}
-use Rattle.dk_engine.proofs.lending.point_of_one.Goals as goal
-
-pub returns-in_err-first-clause-err : goal.returns-in_err-first-clause-err
-returns-in_err-first-clause-err c =
-    let tuple = c.args.a.now ∷ [] in
-    on_err c.from_residual.result (strings_in_tuple c.args.row c.requires.row tuple c.requires.tuple (other_row c.args.row tuple c.requires.tuple (λ e. omega (arith, e))) 0 c.in_err-first.ensures.err)

@@ -1,6 +1,0 @@
-use Rattle.std.proofs.Common.{take}
-use Rattle.dk_engine.specs.Bitmaps.{IsRowOf}
-use Rattle.dk_engine.proofs.mapping.block_row.Given as goal
-
-abbrev pub invariant-loop-pattern : goal.invariant-loop-pattern
-invariant-loop-pattern l = IsRowOf l.leaders (take l.pattern-index l.block) l.row.items
