@@ -12,7 +12,7 @@ SOURCES: dict[str, str] = {
     "dk_check": "crates/dk_check/src/texts.rt",
     "dk_merge": "crates/dk_merge_command_line/src/texts.rt",
     "dk_tell": "crates/dk_tell/src/texts.rt",
-    "dk_table": "crates/dk_table/src/texts.rt",
+    "dk_table": "crates/dk_table/src/words/texts.rt",
 }
 ESCAPES = {"\\n": "\n", '\\"': '"', "\\\\": "\\", "\\\n": ""}
 

@@ -1,10 +1,10 @@
 -- Finding kinds row by row, up to the first that is refused.
 use Rattle.std.proofs.Common.{◌≡◌, ◌∙◌, [], ℕ, Bool, true, false, List, Result, Ok, Err, sym, ap, if◌then◌else◌}
-use Rattle.dk_table.specs.Cursors.{Cursor, Moves}
-use Rattle.dk_table.specs.Judging.{Judged, judging}
+use Rattle.dk_table.specs.Tables.Cursors.{Cursor, Moves}
+use Rattle.dk_table.specs.Columns.Judging.{Judged, judging}
 use Rattle.dk_table.specs.Outcomes.{Answers}
-use Rattle.dk_table.specs.Placed.{Placed}
-use Rattle.dk_table.specs.Stages.{is_done, judging_steps, steps_by}
+use Rattle.dk_table.specs.Tables.Placed.{Placed}
+use Rattle.dk_table.specs.Streams.Stages.{is_done, judging_steps, steps_by}
 use Rattle.dk_table.specs.Streams.{Step, row_steps, rows_steps}
 use Rattle.dk_table.specs.Tables.{◌>>=◌}
 use Rattle.dk_table.specs.declared.faults.Refusal.{Refusal}

@@ -12,11 +12,11 @@ use Rattle.csv.specs.declared.parser.Config.{Config}
 use Rattle.csv.specs.declared.parser.State.{State}
 use Rattle.csv.specs.declared.parser.State.TheVariants as st
 use Rattle.csv.specs.declared.parser.Terminator.TheVariants as term
-use Rattle.dk_table.specs.Chunks.{AreWholeRows, EndsRow, IsBehindLines, stand_behind, stand_of}
-use Rattle.dk_table.specs.Cutting.{IsUnquoted}
+use Rattle.dk_table.specs.Tables.Chunks.{AreWholeRows, EndsRow, IsBehindLines, stand_behind, stand_of}
+use Rattle.dk_table.specs.Tables.Cutting.{IsUnquoted}
 use Rattle.dk_table.specs.Tables.{config_by}
-use Rattle.dk_table.specs.declared.chunks.Stand.{Stand}
-use Rattle.dk_table.specs.declared.chunks.Stand.TheVariants as stand
+use Rattle.dk_table.specs.declared.streaming.chunks.Stand.{Stand}
+use Rattle.dk_table.specs.declared.streaming.chunks.Stand.TheVariants as stand
 use Rattle.dk_table.proofs.AllRecords.{records_end}
 use Rattle.dk_table.proofs.Cutting.{behind_cr, next_between, no_quote, unquoted_drop}
 

@@ -6,25 +6,25 @@ use Rattle.dk_io.specs.Outside.{HeldFile}
 use Rattle.dk_io.specs.Streams.{Texts, with_bytes}
 use Rattle.dk_io.specs.declared.outside.Stream.TheVariants.{Report}
 use Rattle.dk_write.specs.Texts.{trace_text}
-use Rattle.dk_table.specs.Contents.{AreReadAs, helds_of}
-use Rattle.dk_table.specs.Judging.{kind_by}
-use Rattle.dk_table.specs.Pieces.{held_rows}
-use Rattle.dk_table.specs.Placed.{Placed}
-use Rattle.dk_table.specs.Progress.{AreBehind, AreWhole, EndedSays, StreamSays, all_rows}
-use Rattle.dk_table.specs.Stages.{IsBody, IsFront}
-use Rattle.dk_table.specs.Stops.{Writes}
+use Rattle.dk_table.specs.Tables.Contents.{AreReadAs, helds_of}
+use Rattle.dk_table.specs.Columns.Judging.{kind_by}
+use Rattle.dk_table.specs.Streams.Pieces.{held_rows}
+use Rattle.dk_table.specs.Tables.Placed.{Placed}
+use Rattle.dk_table.specs.Streams.Progress.{AreBehind, AreWhole, EndedSays, StreamSays, all_rows}
+use Rattle.dk_table.specs.Streams.Stages.{IsBody, IsFront}
+use Rattle.dk_table.specs.Streams.Stops.{Writes}
 use Rattle.dk_table.specs.Streams.{Step, Stream, all_steps, ended_stream, first_cells, first_refusal, nothing, rows_steps, rows_stream, stream_at, stream_by, stream_with}
 use Rattle.dk_table.specs.Tables.{names_by, rows_in}
 use Rattle.dk_table.specs.Traces.{declaration_of}
 use Rattle.dk_table.specs.declared.columns.ColumnKind.{ColumnKind}
-use Rattle.dk_table.specs.declared.command.Command.{Command}
+use Rattle.dk_table.specs.declared.words.command.Command.{Command}
 use Rattle.dk_table.specs.declared.faults.TableWhy.TheVariants.{NoHeader}
-use Rattle.dk_table.specs.declared.stages.Body.{Body}
-use Rattle.dk_table.specs.declared.stages.Front.{Front}
-use Rattle.dk_table.specs.declared.stages.Stage.{Stage}
-use Rattle.dk_table.specs.declared.stages.Stage.TheVariants.{Start}
-use Rattle.dk_table.specs.declared.stops.Stop.{Stop}
-use Rattle.dk_table.specs.declared.stops.Stop.TheVariants.{Refused}
+use Rattle.dk_table.specs.declared.streaming.stages.Body.{Body}
+use Rattle.dk_table.specs.declared.streaming.stages.Front.{Front}
+use Rattle.dk_table.specs.declared.streaming.stages.Stage.{Stage}
+use Rattle.dk_table.specs.declared.streaming.stages.Stage.TheVariants.{Start}
+use Rattle.dk_table.specs.declared.streaming.stops.Stop.{Stop}
+use Rattle.dk_table.specs.declared.streaming.stops.Stop.TheVariants.{Refused}
 use Rattle.dk_io.proofs.Writing.{added_nil}
 use Rattle.dk_table.proofs.Contents.{helds_length}
 use Rattle.dk_table.proofs.Sent.{writes_after}

@@ -5,7 +5,7 @@ use Rattle.dk_driver.specs.Reads.{AtStart, Break, HasBroken, IsPlaced, Within, h
 use Rattle.dk_driver.specs.declared.fault.FilesFault.{FilesFault}
 use Rattle.dk_driver.specs.declared.fault.FilesFault.TheVariants.{Refused, Start, Read, NoMemory}
 use Rattle.dk_io.specs.Outside.{HeldFile, Absent, Holds}
-use Rattle.dk_table.specs.Contents.{AreReadAs, FaultSays, IsUnreadAt, OwnFaultSays, ReadAs, helds_of}
+use Rattle.dk_table.specs.Tables.Contents.{AreReadAs, FaultSays, IsUnreadAt, OwnFaultSays, ReadAs, helds_of}
 
 -- what is told of the file at a place
 pub held_named : (names : List (List ℕ)) (file : List ℕ → HeldFile) (place : ℕ) → place < length names

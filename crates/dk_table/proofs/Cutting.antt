@@ -11,10 +11,10 @@ use Rattle.csv.specs.declared.parser.Config.{Config}
 use Rattle.csv.specs.declared.parser.State.{State}
 use Rattle.csv.specs.declared.parser.State.TheVariants as st
 use Rattle.csv.specs.declared.parser.Terminator.TheVariants as term
-use Rattle.dk_table.specs.Cursors.{Cursor, Moves, line_row, rows_of_bytes}
-use Rattle.dk_table.specs.Cutting.{IsCut, IsUnquoted}
-use Rattle.dk_table.specs.Marks.{IsNextEnd, ends_cell}
-use Rattle.dk_table.specs.Placed.{Placed}
+use Rattle.dk_table.specs.Tables.Cursors.{Cursor, Moves, line_row, rows_of_bytes}
+use Rattle.dk_table.specs.Tables.Cutting.{IsCut, IsUnquoted}
+use Rattle.dk_table.specs.Tables.Marks.{IsNextEnd, ends_cell}
+use Rattle.dk_table.specs.Tables.Placed.{Placed}
 use Rattle.dk_table.specs.Tables.{are_paired, config_by, placed_from}
 use Rattle.dk_table.proofs.AllRecords.{behind_end, records_end, records_more}
 

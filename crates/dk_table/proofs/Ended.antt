@@ -18,16 +18,16 @@ use Rattle.dk_program.specs.Moments.{IsCalm, Outside}
 use Rattle.dk_program.specs.Outputs.{texts_followed_by}
 use Rattle.dk_program.specs.Statuses.{GivesOutput}
 use Rattle.dk_write.specs.Texts.{trace_text}
-use Rattle.dk_table.specs.Contents.{AreReadAs, IsFrontBy, Reached, helds_of}
-use Rattle.dk_table.specs.Ends.{IsOfFile, StopEnds}
-use Rattle.dk_table.specs.Progress.{EndedSays, IsStopped, StopSays, StreamSays, reached_stream}
+use Rattle.dk_table.specs.Tables.Contents.{AreReadAs, IsFrontBy, Reached, helds_of}
+use Rattle.dk_table.specs.Statuses.Ends.{IsOfFile, StopEnds}
+use Rattle.dk_table.specs.Streams.Progress.{EndedSays, IsStopped, StopSays, StreamSays, reached_stream}
 use Rattle.dk_table.specs.Statuses.{Completes, ComesTo, IsCutShort, Outcome, Says, outcome_behind, outcome_by, outcome_of, point_of, reached_by, refused_line, told, written_by, written_of}
 use Rattle.dk_table.specs.Streams.{Stream, stream_at, stream_in}
 use Rattle.dk_table.specs.Tables.{config_by}
-use Rattle.dk_table.specs.declared.command.Command.{Command}
+use Rattle.dk_table.specs.declared.words.command.Command.{Command}
 use Rattle.dk_table.specs.declared.faults.Refusal.{Refusal}
-use Rattle.dk_table.specs.declared.stops.Stop.{Stop}
-use Rattle.dk_table.specs.declared.stops.Stop.TheVariants.{NoMemory, Refused, Unread, Unstarted, Write}
+use Rattle.dk_table.specs.declared.streaming.stops.Stop.{Stop}
+use Rattle.dk_table.specs.declared.streaming.stops.Stop.TheVariants.{NoMemory, Refused, Unread, Unstarted, Write}
 use Rattle.dk_table.specs.declared.words.TableArguments.{TableArguments}
 use Rattle.dk_table.proofs.Contents.{helds_length, not_absent, same_contents}
 use Rattle.dk_table.proofs.Parts.{none_ends}

@@ -19,15 +19,15 @@ use Rattle.dk_decl.specs.declared.decls.VarDecl.{VarDecl}
 use Rattle.dk_write.specs.Names.{is_line, is_word}
 use Rattle.dk_write.specs.Texts.{Begins, Declares, Records}
 use Rattle.dk_write.specs.Writable.{begins_record, can_declare, can_record}
-use Rattle.dk_table.specs.Cells.{decimal_of, dot_of, is_dot, is_front, quoted, size_of, truth, whole}
 use Rattle.dk_table.specs.Columns.{kind_of_column}
-use Rattle.dk_table.specs.Marks.{ends_cell}
-use Rattle.dk_table.specs.Placed.{Placed}
+use Rattle.dk_table.specs.Columns.Cells.{decimal_of, dot_of, is_dot, is_front, quoted, size_of, truth, whole}
 use Rattle.dk_table.specs.Tables.{rows_in}
+use Rattle.dk_table.specs.Tables.Marks.{ends_cell}
+use Rattle.dk_table.specs.Tables.Placed.{Placed}
 use Rattle.dk_table.specs.Traces.{any_compar, trace_by, trace_of}
 use Rattle.dk_table.specs.declared.columns.ColumnKind.TheVariants as kind
-use Rattle.dk_table.specs.declared.command.Command.{Command}
 use Rattle.dk_table.specs.declared.faults.TableWhy.TheVariants.{RowLength}
+use Rattle.dk_table.specs.declared.words.command.Command.{Command}
 
 -- three columns with a header, a blank line, and an empty cell
 abbrev table : List ℕ

@@ -15,7 +15,7 @@ use Rattle.std.proofs.lemmas.Slice.Eq.{bytes_eq-Decides}
 use Rattle.std.proofs.lemmas.Str.{digit_value_digit}
 use Rattle.std.proofs.lemmas.Str.Parse.{digit_from_value}
 use Rattle.dk_base.specs.Numbers.{fits_i64, integer_of, is_numeral, numeral_of, signed, whole_of}
-use Rattle.dk_table.specs.Cells.{decimal_of, dot_of, is_dot, is_front, is_shortest, size_of, whole}
+use Rattle.dk_table.specs.Columns.Cells.{decimal_of, dot_of, is_dot, is_front, is_shortest, size_of, whole}
 use Rattle.dk_table.proofs.Spelled.{fitting, from_tests, whole_by}
 
 -- ---- digits

@@ -1,14 +1,14 @@
 -- The rows of the files, one after another.
 use Rattle.std.proofs.Common.{◌≡◌, ◌≤◌, ◌<◌, ◌+◌, ◌∙◌, ◌∷◌, ◌++◌, [], ℕ, List, Result, Ok, Err, drop, get_or, length, refl, sym, ap}
 use Rattle.std.proofs.lemmas.List.{drop_all, drop_more}
-use Rattle.dk_table.specs.Judging.{Judged, judging, judging_all, judging_rows}
+use Rattle.dk_table.specs.Columns.Judging.{Judged, judging, judging_all, judging_rows}
 use Rattle.dk_table.specs.Outcomes.{Answers}
-use Rattle.dk_table.specs.Placed.{Placed}
 use Rattle.dk_table.specs.Tables.{◌>>=◌, bodies_in, body_in, file_rows, rows_of_all}
-use Rattle.dk_table.specs.declared.command.Command.{Command}
+use Rattle.dk_table.specs.Tables.Placed.{Placed}
 use Rattle.dk_table.specs.declared.faults.Refusal.{Refusal}
 use Rattle.dk_table.specs.declared.faults.TableFault.{TableFault}
 use Rattle.dk_table.specs.declared.faults.TableFault.TheVariants.{NoMemory, Refused}
+use Rattle.dk_table.specs.declared.words.command.Command.{Command}
 
 judged_append : (j : Judged) (front rest : List Placed) → judging_all j (front ++ rest) ≡ judging_all (judging_all j front) rest
 judged_append j [] rest = refl

@@ -7,9 +7,9 @@ use Rattle.std.proofs.lemmas.List.Folds.{list_all-append}
 use Rattle.dk_decl.specs.declared.decls.PointDecl.{PointDecl}
 use Rattle.dk_decl.specs.declared.decls.VarDecl.{VarDecl}
 use Rattle.dk_table.specs.Columns.{cell_value}
-use Rattle.dk_table.specs.Cursors.{Cursor, Moves}
-use Rattle.dk_table.specs.Forms.{all_fit, form_of, heading_of, row_fits}
-use Rattle.dk_table.specs.Placed.{Placed}
+use Rattle.dk_table.specs.Tables.Cursors.{Cursor, Moves}
+use Rattle.dk_table.specs.Writing.Forms.{all_fit, form_of, heading_of, row_fits}
+use Rattle.dk_table.specs.Tables.Placed.{Placed}
 use Rattle.dk_table.specs.Traces.{is_told, untold_row}
 use Rattle.dk_table.specs.declared.columns.ColumnKind.{ColumnKind}
 use Rattle.dk_table.specs.declared.writing.Form.{Form}

@@ -5,9 +5,9 @@ use Rattle.std.specs.Io.KnownBytes.{IsAtEnd, prepend_known}
 use Rattle.std.proofs.lemmas.Bool.{ltb-false}
 use Rattle.csv.specs.Reading.{is_bom, strip_bom}
 use Rattle.dk_io.specs.Outside.{HeldFile, Untold, Absent, Holds, Rose, Starts}
-use Rattle.dk_table.specs.Pieces.{FillsSays, IsGathered, without_mark}
-use Rattle.dk_table.specs.declared.filling.Filled.{Filled}
-use Rattle.dk_table.specs.declared.filling.Filled.TheVariants.{Full, Ended, Failed}
+use Rattle.dk_table.specs.Streams.Pieces.{FillsSays, IsGathered, without_mark}
+use Rattle.dk_table.specs.declared.streaming.filling.Filled.{Filled}
+use Rattle.dk_table.specs.declared.streaming.filling.Filled.TheVariants.{Full, Ended, Failed}
 
 -- ---- what is left of a file that is told
 left_of : (bytes got : List ℕ) (before after : Option (List ℕ)) → before ≡ Some bytes → before ≡ prepend_known got after

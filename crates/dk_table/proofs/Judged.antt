@@ -10,16 +10,16 @@ use Rattle.std.proofs.lemmas.List.FromFn.{length-range_with_len}
 use Rattle.dk_base.specs.Pieces.{is_empty}
 use Rattle.dk_base.specs.declared.values.Value.TheVariants as value
 use Rattle.dk_table.specs.Columns.{all_write, cell_value, first_kind, kind_of_column, written_value}
-use Rattle.dk_table.specs.Judging.{Judged, first_or_text, fresh, fresh_column, judging_all, judging_rows, kind_by, with_cell, with_row}
+use Rattle.dk_table.specs.Columns.Judging.{Judged, first_or_text, fresh, fresh_column, judging_all, judging_rows, kind_by, with_cell, with_row}
 use Rattle.dk_table.specs.Tables.{◌>>=◌, rows_of_all}
-use Rattle.dk_table.specs.Placed.{Placed, cell_at, cells_at}
+use Rattle.dk_table.specs.Tables.Placed.{Placed, cell_at, cells_at}
 use Rattle.dk_table.specs.Traces.{is_told, judged, kinds_in, kinds_of, untold_row}
 use Rattle.dk_table.specs.declared.columns.TheConstants.{CANDIDATES}
 use Rattle.dk_table.specs.declared.columns.ColumnKind.{ColumnKind}
 use Rattle.dk_table.specs.declared.columns.ColumnKind.TheVariants as kind
-use Rattle.dk_table.specs.declared.command.Command.{Command}
+use Rattle.dk_table.specs.declared.words.command.Command.{Command}
 use Rattle.dk_table.specs.declared.faults.Refusal.{Refusal}
-use Rattle.dk_table.specs.declared.judging.Column.{Column}
+use Rattle.dk_table.specs.declared.columns.judging.Column.{Column}
 
 -- ---- lists
 map_twice : {X Y Z : Type 0} (f : X → Y) (g : Y → Z) (xs : List X) → map g (map f xs) ≡ map (λ x. g (f x)) xs

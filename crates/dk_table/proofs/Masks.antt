@@ -4,8 +4,8 @@ use Rattle.std.specs.Int.{bit_at}
 use Rattle.std.specs.Prelude.{max, slice_index}
 use Rattle.std.proofs.lemmas.Bool.{cases_lt}
 use Rattle.std.proofs.lemmas.Nat.Bits.{bit_at_or, bit_at-zero}
-use Rattle.dk_table.specs.Marks.{AreAhead, HasBytes, IsMask, IsNextEnd, ends_cell}
-use Rattle.dk_table.specs.declared.marks.Marks.{Marks}
+use Rattle.dk_table.specs.Tables.Marks.{AreAhead, HasBytes, IsMask, IsNextEnd, ends_cell}
+use Rattle.dk_table.specs.declared.rows.marks.Marks.{Marks}
 
 -- a bit of three joined masks, each of which tests for one byte
 abbrev bit_of : Bool → ℕ

@@ -8,27 +8,27 @@ use Rattle.dk_io.specs.Outside.{HeldFile}
 use Rattle.dk_io.specs.Streams.{Texts, with_bytes}
 use Rattle.dk_io.specs.declared.outside.Stream.TheVariants.{Report}
 use Rattle.dk_write.specs.Texts.{trace_text}
-use Rattle.dk_table.specs.Chunks.{EndsRow}
-use Rattle.dk_table.specs.Contents.{Begins, ReadAs, helds_of}
-use Rattle.dk_table.specs.Pieces.{CutsOf, FillsSays, IsGathered, OpenSays}
-use Rattle.dk_table.specs.Placed.{Placed}
-use Rattle.dk_table.specs.Progress.{AreBehind, FileGoes, IsGoing, IsStopped, StopSays, all_rows, unopened}
-use Rattle.dk_table.specs.Stages.{IsAt, IsBehind, rows_behind}
-use Rattle.dk_table.specs.Stops.{Writes}
+use Rattle.dk_table.specs.Tables.Chunks.{EndsRow}
+use Rattle.dk_table.specs.Tables.Contents.{Begins, ReadAs, helds_of}
+use Rattle.dk_table.specs.Streams.Pieces.{CutsOf, FillsSays, IsGathered, OpenSays}
+use Rattle.dk_table.specs.Tables.Placed.{Placed}
+use Rattle.dk_table.specs.Streams.Progress.{AreBehind, FileGoes, IsGoing, IsStopped, StopSays, all_rows, unopened}
+use Rattle.dk_table.specs.Streams.Stages.{IsAt, IsBehind, rows_behind}
+use Rattle.dk_table.specs.Streams.Stops.{Writes}
 use Rattle.dk_table.specs.Streams.{Stream, end_steps, rows_stream, text_rows}
 use Rattle.dk_table.specs.Tables.{are_paired, config_by, rows_in}
-use Rattle.dk_table.specs.declared.advancing.Place.{Place}
-use Rattle.dk_table.specs.declared.command.Command.{Command}
+use Rattle.dk_table.specs.declared.streaming.advancing.Place.{Place}
+use Rattle.dk_table.specs.declared.words.command.Command.{Command}
 use Rattle.dk_table.specs.declared.faults.Refusal.{Refusal}
-use Rattle.dk_table.specs.declared.filling.Cut.{Cut}
-use Rattle.dk_table.specs.declared.filling.Filled.{Filled}
-use Rattle.dk_table.specs.declared.filling.Filled.TheVariants.{Full, Ended, Failed}
-use Rattle.dk_table.specs.declared.filling.OpenFault.{OpenFault}
-use Rattle.dk_table.specs.declared.filling.OpenFault.TheVariants as opening
-use Rattle.dk_table.specs.declared.filling.Piece.{Piece}
-use Rattle.dk_table.specs.declared.stages.Stage.{Stage}
-use Rattle.dk_table.specs.declared.stops.Stop.{Stop}
-use Rattle.dk_table.specs.declared.stops.Stop.TheVariants.{NoMemory, Refused}
+use Rattle.dk_table.specs.declared.streaming.filling.Cut.{Cut}
+use Rattle.dk_table.specs.declared.streaming.filling.Filled.{Filled}
+use Rattle.dk_table.specs.declared.streaming.filling.Filled.TheVariants.{Full, Ended, Failed}
+use Rattle.dk_table.specs.declared.streaming.filling.OpenFault.{OpenFault}
+use Rattle.dk_table.specs.declared.streaming.filling.OpenFault.TheVariants as opening
+use Rattle.dk_table.specs.declared.streaming.filling.Piece.{Piece}
+use Rattle.dk_table.specs.declared.streaming.stages.Stage.{Stage}
+use Rattle.dk_table.specs.declared.streaming.stops.Stop.{Stop}
+use Rattle.dk_table.specs.declared.streaming.stops.Stop.TheVariants.{NoMemory, Refused}
 use Rattle.dk_table.specs.declared.streaming.Going.{Going}
 use Rattle.dk_table.proofs.Contents.{helds_length}
 use Rattle.dk_table.proofs.Gathering.{gathered_cut, gathered_more, gathered_since}

@@ -5,15 +5,15 @@ use Rattle.dk_io.specs.Streams.{AddsFront, Texts, with_bytes}
 use Rattle.dk_io.specs.declared.outside.Stream.TheVariants.{Report}
 use Rattle.dk_io.proofs.Writing.{added_nil}
 use Rattle.dk_write.specs.Texts.{Begins, Declares, block_text, trace_text}
-use Rattle.dk_table.specs.Forms.{form_of, rows_text}
-use Rattle.dk_table.specs.Stops.{Writes}
+use Rattle.dk_table.specs.Writing.Forms.{form_of, rows_text}
+use Rattle.dk_table.specs.Streams.Stops.{Writes}
 use Rattle.dk_table.specs.Streams.{Step, Stream, first_refusal, rows_before, stream_by, told_steps}
 use Rattle.dk_table.specs.Traces.{are_named, declaration_of}
 use Rattle.dk_table.specs.declared.columns.ColumnKind.{ColumnKind}
 use Rattle.dk_table.specs.declared.faults.Refusal.{Refusal}
 use Rattle.dk_table.specs.declared.faults.TableWhy.TheVariants.{BadName}
-use Rattle.dk_table.specs.declared.stops.Stop.{Stop}
-use Rattle.dk_table.specs.declared.stops.Stop.TheVariants.{NoMemory, Refused, Unread, Unstarted, Write}
+use Rattle.dk_table.specs.declared.streaming.stops.Stop.{Stop}
+use Rattle.dk_table.specs.declared.streaming.stops.Stop.TheVariants.{NoMemory, Refused, Unread, Unstarted, Write}
 use Rattle.dk_table.specs.declared.writing.Form.{Form}
 use Rattle.dk_table.proofs.Formed.{trace_told}
 use Rattle.dk_table.proofs.Sent.{adds_more, adds_none, writes_after}

@@ -6,8 +6,8 @@ use Rattle.csv.specs.Machine.{next_record}
 use Rattle.csv.specs.Reading.{records}
 use Rattle.csv.specs.declared.parser.Config.{Config}
 use Rattle.csv.specs.declared.parser.State.TheVariants as st
-use Rattle.dk_table.specs.Chunks.{EndsRow}
-use Rattle.dk_table.specs.Placed.{Placed}
+use Rattle.dk_table.specs.Tables.Chunks.{EndsRow}
+use Rattle.dk_table.specs.Tables.Placed.{Placed}
 use Rattle.dk_table.specs.Tables.{are_paired, placed_from}
 use Rattle.dk_table.proofs.AllRecords.{records_end}
 use Rattle.dk_table.proofs.Chunked.{quotes_append}

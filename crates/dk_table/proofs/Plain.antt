@@ -3,7 +3,7 @@ use Rattle.std.proofs.Common.{◌≡◌, ◌∙◌, ◌==◌, ◌||◌, ◌∷�
 use Rattle.std.specs.Prelude.{not}
 use Rattle.std.specs.List.{list_all}
 use Rattle.std.proofs.lemmas.Bool.{and_parts}
-use Rattle.dk_table.specs.Cells.{is_plain, quoted_byte}
+use Rattle.dk_table.specs.Columns.Cells.{is_plain, quoted_byte}
 
 none_of : (p q r s t : Bool) (a b c d e f : List ℕ) → not (p || q || r || s || t) ≡ true
     → (if p then a else if q then b else if r then c else if s then d else if t then e else f) ≡ f

@@ -7,23 +7,23 @@ use Rattle.dk_io.specs.Outside.{HeldFile, Untold, Absent, Holds}
 use Rattle.dk_io.specs.Streams.{AddsFront, Texts, with_bytes}
 use Rattle.dk_io.specs.declared.outside.Stream.TheVariants.{Report}
 use Rattle.dk_write.specs.Texts.{trace_text}
-use Rattle.dk_table.specs.Chunks.{EndsRow}
-use Rattle.dk_table.specs.Contents.{AreReadAs, Begins, ReadAs, Reached, helds_of}
-use Rattle.dk_table.specs.Pieces.{IsGathered}
-use Rattle.dk_table.specs.Placed.{Placed}
-use Rattle.dk_table.specs.Progress.{AreWhole, FileGoes, HasFirst, IsWithin, StopSays, all_rows, reached_stream}
-use Rattle.dk_table.specs.Stages.{IsAt, IsBehind, rows_behind}
-use Rattle.dk_table.specs.Stops.{Writes}
+use Rattle.dk_table.specs.Tables.Chunks.{EndsRow}
+use Rattle.dk_table.specs.Tables.Contents.{AreReadAs, Begins, ReadAs, Reached, helds_of}
+use Rattle.dk_table.specs.Streams.Pieces.{IsGathered}
+use Rattle.dk_table.specs.Tables.Placed.{Placed}
+use Rattle.dk_table.specs.Streams.Progress.{AreWhole, FileGoes, HasFirst, IsWithin, StopSays, all_rows, reached_stream}
+use Rattle.dk_table.specs.Streams.Stages.{IsAt, IsBehind, rows_behind}
+use Rattle.dk_table.specs.Streams.Stops.{Writes}
 use Rattle.dk_table.specs.Streams.{Step, Stream, all_steps, end_steps, first_cells, first_rows, names_in, next_rows, rows_steps, rows_stream, stream_in, stream_with, text_rows}
 use Rattle.dk_table.specs.Tables.{are_paired, config_by, names_by, placed_from, rows_in}
-use Rattle.dk_table.specs.declared.command.Command.{Command}
+use Rattle.dk_table.specs.declared.words.command.Command.{Command}
 use Rattle.dk_table.specs.declared.faults.Refusal.{Refusal}
-use Rattle.dk_table.specs.declared.filling.Filled.{Filled}
-use Rattle.dk_table.specs.declared.filling.Filled.TheVariants.{Full, Ended, Failed}
-use Rattle.dk_table.specs.declared.stages.Stage.{Stage}
-use Rattle.dk_table.specs.declared.stops.Stop.{Stop}
-use Rattle.dk_table.specs.declared.stops.Stop.TheVariants.{NoMemory, Refused, Unread, Unstarted, Write}
-use Rattle.dk_table.specs.declared.advancing.Place.{Place}
+use Rattle.dk_table.specs.declared.streaming.filling.Filled.{Filled}
+use Rattle.dk_table.specs.declared.streaming.filling.Filled.TheVariants.{Full, Ended, Failed}
+use Rattle.dk_table.specs.declared.streaming.stages.Stage.{Stage}
+use Rattle.dk_table.specs.declared.streaming.stops.Stop.{Stop}
+use Rattle.dk_table.specs.declared.streaming.stops.Stop.TheVariants.{NoMemory, Refused, Unread, Unstarted, Write}
+use Rattle.dk_table.specs.declared.streaming.advancing.Place.{Place}
 use Rattle.dk_table.proofs.AllRecords.{placed_length}
 use Rattle.dk_table.proofs.Contents.{helds_length, read_next}
 use Rattle.dk_table.proofs.Grown.{refusal_stays, refused_at_end, written_grows}

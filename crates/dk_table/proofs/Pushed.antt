@@ -8,12 +8,12 @@ use Rattle.dk_base.specs.declared.values.Value.TheVariants as value
 use Rattle.dk_base.specs.Spelling.{spelling}
 use Rattle.dk_decl.specs.Types.{is_missing}
 use Rattle.dk_lines.specs.Passing.{joined}
-use Rattle.dk_table.specs.Cells.{decimal_of, dot_of, is_shortest, whole}
+use Rattle.dk_table.specs.Columns.Cells.{decimal_of, dot_of, is_shortest, whole}
 use Rattle.dk_table.specs.Columns.{cell_value, option_lines, value_lines, written_value}
-use Rattle.dk_table.specs.Forms.{cell_lines, tail_of}
-use Rattle.dk_table.specs.Pushing.{Pushes, value_with}
+use Rattle.dk_table.specs.Writing.Forms.{cell_lines, tail_of}
+use Rattle.dk_table.specs.Writing.Pushing.{Pushes, value_with}
 use Rattle.dk_table.specs.declared.columns.ColumnKind.TheVariants as kind
-use Rattle.dk_table.specs.declared.tails.Tail.{Tail}
+use Rattle.dk_table.specs.declared.writing.tails.Tail.{Tail}
 use Rattle.dk_table.specs.declared.writing.Heading.{Heading}
 use Rattle.dk_table.proofs.Few.{decimal_few}
 use Rattle.dk_table.proofs.Spelled.{as_printed, shortest_is}

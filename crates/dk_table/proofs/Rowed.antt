@@ -2,12 +2,12 @@
 use Rattle.std.proofs.Common.{◌≡◌, ◌≤◌, ◌<◌, ◌+◌, ◌∙◌, ◌∷◌, ◌++◌, [], ℕ, zero, suc, Bool, true, false, List, append_assoc, arith, get_or, length, map, refl, sym, take, ap, subst}
 use Rattle.std.proofs.lemmas.List.{take-append-le, take_all}
 use Rattle.dk_decl.specs.declared.decls.PointDecl.{PointDecl}
-use Rattle.dk_table.specs.Forms.{IsFormed, form_of, line_at, tail_of, tails_of}
-use Rattle.dk_table.specs.Pushing.{AddsRow, GathersRow}
+use Rattle.dk_table.specs.Writing.Forms.{IsFormed, form_of, line_at, tail_of, tails_of}
+use Rattle.dk_table.specs.Writing.Pushing.{AddsRow, GathersRow}
 use Rattle.dk_table.specs.declared.columns.ColumnKind.{ColumnKind}
-use Rattle.dk_table.specs.declared.tails.Tail.{Tail}
 use Rattle.dk_table.specs.declared.writing.Form.{Form}
 use Rattle.dk_table.specs.declared.writing.Heading.{Heading}
+use Rattle.dk_table.specs.declared.writing.tails.Tail.{Tail}
 
 -- ---- lines of names
 pub line_there : (hs : List Heading) (width i : ℕ) (h : Heading) → i < width → width ≤ length hs → h ≡ get_or hs i h → line_at (take width hs) i ≡ h.line

@@ -21,12 +21,12 @@ use Rattle.dk_program.specs.Statuses.{GivesOutput, OutputIsWritten}
 use Rattle.dk_io.specs.Streams.{AddsFront, Texts}
 use Rattle.dk_io.proofs.Writing.{added_nil}
 use Rattle.dk_table.specs.Writing.{EndsCut}
-use Rattle.dk_table.specs.Messages.{refusal_line}
+use Rattle.dk_table.specs.Refusals.Messages.{refusal_line}
 use Rattle.dk_write.specs.Texts.{Write as Block, trace_text}
 use Rattle.dk_table.proofs.Contents.{helds_length, not_absent, same_contents}
 use Rattle.dk_table.specs.Asked.{table_command}
-use Rattle.dk_table.specs.Contents.{AreReadAs, FaultSays, IsFrontBy, IsUnreadAt, Reached, helds_of}
-use Rattle.dk_table.specs.Ends.{Answer, IsHeld, answer_by, answer_of}
+use Rattle.dk_table.specs.Tables.Contents.{AreReadAs, FaultSays, IsFrontBy, IsUnreadAt, Reached, helds_of}
+use Rattle.dk_table.specs.Statuses.Ends.{Answer, IsHeld, answer_by, answer_of}
 use Rattle.dk_table.specs.Streams.{Stream as Written, nothing}
 use Rattle.dk_table.specs.Statuses.{Completes, ComesTo, IsCutShort, Outcome, Says, judged_whole, outcome_by, outcome_of, point_of, reached_by, told, written_by}
 use Rattle.dk_table.specs.Tables.{config_by}

@@ -6,11 +6,11 @@ use Rattle.dk_io.specs.Outside.{Rose}
 use Rattle.dk_io.specs.Streams.{AddsFront, Texts, with_bytes}
 use Rattle.dk_io.specs.declared.outside.Stream.TheVariants.{Report}
 use Rattle.dk_io.proofs.Writing.{added_nil, added_twice}
-use Rattle.dk_table.specs.Stops.{Gathers, Writes, stop_of_halt}
+use Rattle.dk_table.specs.Streams.Stops.{Gathers, Writes, stop_of_halt}
 use Rattle.dk_table.specs.Writing.{HaltHasCause, IsTold}
 use Rattle.dk_table.specs.declared.faults.Refusal.{Refusal}
-use Rattle.dk_table.specs.declared.stops.Stop.{Stop}
-use Rattle.dk_table.specs.declared.stops.Stop.TheVariants.{NoMemory, Refused, Unread, Unstarted, Write}
+use Rattle.dk_table.specs.declared.streaming.stops.Stop.{Stop}
+use Rattle.dk_table.specs.declared.streaming.stops.Stop.TheVariants.{NoMemory, Refused, Unread, Unstarted, Write}
 use Rattle.dk_table.specs.declared.writing.Halt.{Halt}
 use Rattle.dk_table.specs.declared.writing.Halt.TheVariants as halt
 use Rattle.dk_table.proofs.Pieces.{cut_then, told_all, told_as, told_then}

@@ -11,7 +11,7 @@ use Rattle.std.proofs.lemmas.Fmt.{decimal-digits_value, decimal_digit, first_dec
 use Rattle.std.proofs.lemmas.Slice.Eq.{bytes_eq-Decides}
 use Rattle.std.proofs.lemmas.Str.Parse.{digit_from_value, numerals_by_value, tells_digits}
 use Rattle.dk_base.specs.Numbers.{fits_i64, integer_of, is_numeral, negated, numeral_of, signed, whole_of}
-use Rattle.dk_table.specs.Cells.{is_shortest, whole}
+use Rattle.dk_table.specs.Columns.Cells.{is_shortest, whole}
 
 -- ---- digits
 

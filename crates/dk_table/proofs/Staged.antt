@@ -8,30 +8,30 @@ use Rattle.dk_io.specs.Streams.{Texts, with_bytes}
 use Rattle.dk_io.specs.declared.outside.Stream.TheVariants.{Report}
 use Rattle.dk_io.proofs.Writing.{added_nil}
 use Rattle.dk_write.specs.Texts.{trace_text}
-use Rattle.dk_table.specs.Judging.{Judged, fresh, kind_by}
+use Rattle.dk_table.specs.Columns.Judging.{Judged, fresh, kind_by}
 use Rattle.dk_table.specs.Outcomes.{Answers}
-use Rattle.dk_table.specs.Pieces.{chunk_rows, held_rows}
-use Rattle.dk_table.specs.Placed.{Placed}
-use Rattle.dk_table.specs.Stages.{Goes, IsAt, IsBegun, IsBody, IsFront, IsReady, IsBehind, IsTaken, first_names, is_done, judging_steps, rows_behind}
-use Rattle.dk_table.specs.Stops.{Writes, stop_of_fault}
-use Rattle.dk_table.specs.Forms.{form_of, rows_text}
+use Rattle.dk_table.specs.Streams.Pieces.{chunk_rows, held_rows}
+use Rattle.dk_table.specs.Tables.Placed.{Placed}
+use Rattle.dk_table.specs.Streams.Stages.{Goes, IsAt, IsBegun, IsBody, IsFront, IsReady, IsBehind, IsTaken, first_names, is_done, judging_steps, rows_behind}
+use Rattle.dk_table.specs.Streams.Stops.{Writes, stop_of_fault}
+use Rattle.dk_table.specs.Writing.Forms.{form_of, rows_text}
 use Rattle.dk_table.specs.Streams.{Step, Stream, first_cells, first_refusal, nothing, nothing_but, rows_before, rows_steps, rows_stream, stream_by, stream_with, told_steps, trace_before}
 use Rattle.dk_table.specs.Tables.{◌>>=◌, are_paired, config_by, names_by, placed_from}
 use Rattle.dk_table.specs.Traces.{declaration_of, writes_of}
 use Rattle.dk_table.specs.declared.columns.ColumnKind.{ColumnKind}
-use Rattle.dk_table.specs.declared.command.Command.{Command}
+use Rattle.dk_table.specs.declared.words.command.Command.{Command}
 use Rattle.dk_table.specs.declared.faults.Refusal.{Refusal}
 use Rattle.dk_table.specs.declared.faults.TableFault.{TableFault}
 use Rattle.dk_table.specs.declared.faults.TableFault.TheVariants as fault
-use Rattle.dk_table.specs.declared.held.Chunk.{Chunk}
-use Rattle.dk_table.specs.declared.stages.Body.{Body}
-use Rattle.dk_table.specs.declared.stages.Front.{Front}
-use Rattle.dk_table.specs.declared.stages.Stage.{Stage}
-use Rattle.dk_table.specs.declared.stages.Stage.TheVariants as stage
-use Rattle.dk_table.specs.declared.stops.Stop.{Stop}
-use Rattle.dk_table.specs.declared.stops.Stop.TheVariants.{NoMemory, Refused}
-use Rattle.dk_table.specs.declared.advancing.Place.{Place}
-use Rattle.dk_table.specs.declared.advancing.Taken.{Taken}
+use Rattle.dk_table.specs.declared.streaming.held.Chunk.{Chunk}
+use Rattle.dk_table.specs.declared.streaming.stages.Body.{Body}
+use Rattle.dk_table.specs.declared.streaming.stages.Front.{Front}
+use Rattle.dk_table.specs.declared.streaming.stages.Stage.{Stage}
+use Rattle.dk_table.specs.declared.streaming.stages.Stage.TheVariants as stage
+use Rattle.dk_table.specs.declared.streaming.stops.Stop.{Stop}
+use Rattle.dk_table.specs.declared.streaming.stops.Stop.TheVariants.{NoMemory, Refused}
+use Rattle.dk_table.specs.declared.streaming.advancing.Place.{Place}
+use Rattle.dk_table.specs.declared.streaming.advancing.Taken.{Taken}
 use Rattle.dk_table.specs.declared.writing.Form.{Form}
 use Rattle.dk_table.proofs.Formed.{text_more}
 use Rattle.dk_table.proofs.Opened.{stop_recast}

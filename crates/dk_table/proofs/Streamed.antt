@@ -4,16 +4,16 @@ use Rattle.std.proofs.lemmas.Bool.{false≢true, le-leb, lt-leb}
 use Rattle.std.proofs.lemmas.Grind.{flat_map-append}
 use Rattle.std.proofs.lemmas.List.{length-take, map-append, take_all}
 use Rattle.dk_decl.specs.declared.decls.PointDecl.{PointDecl}
-use Rattle.dk_table.specs.Judging.{Judged, fresh, judging, judging_all, kind_by, with_row}
-use Rattle.dk_table.specs.Placed.{Placed}
-use Rattle.dk_table.specs.Stages.{is_done, judging_step, judging_steps}
+use Rattle.dk_table.specs.Columns.Judging.{Judged, fresh, judging, judging_all, kind_by, with_row}
+use Rattle.dk_table.specs.Tables.Placed.{Placed}
+use Rattle.dk_table.specs.Streams.Stages.{is_done, judging_step, judging_steps}
 use Rattle.dk_table.specs.Streams.{Step, first_cells, first_refusal, nothing, nothing_but, row_steps, rows_before, rows_steps, stream_behind, stream_by, stream_known, stream_with, told_step, told_steps, trace_before}
 use Rattle.dk_table.specs.Tables.{◌>>=◌}
 use Rattle.dk_table.specs.Traces.{are_named, declaration_of, kinds_of}
 use Rattle.dk_table.specs.declared.columns.ColumnKind.{ColumnKind}
 use Rattle.dk_table.specs.declared.faults.Refusal.{Refusal}
 use Rattle.dk_table.specs.declared.faults.TableWhy.TheVariants.{BadName}
-use Rattle.dk_table.specs.declared.judging.Column.{Column}
+use Rattle.dk_table.specs.declared.columns.judging.Column.{Column}
 use Rattle.dk_table.proofs.Judged.{kinds_judged}
 
 -- ---- steps one after another

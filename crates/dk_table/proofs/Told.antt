@@ -3,17 +3,17 @@ use Rattle.std.proofs.Common.{◌≡◌, ◌∙◌, ◌∷◌, ◌++◌, [], ℕ
 use Rattle.std.proofs.lemmas.Grind.{flat_map-append}
 use Rattle.dk_io.specs.Streams.{AddsFront, Texts}
 use Rattle.dk_io.specs.declared.outside.Stream.TheVariants.{Report}
-use Rattle.dk_table.specs.Forms.{row_text, rows_text}
-use Rattle.dk_table.specs.Placed.{Placed}
-use Rattle.dk_table.specs.Stages.{steps_by}
-use Rattle.dk_table.specs.Stops.{Gathers, stop_of_halt}
+use Rattle.dk_table.specs.Writing.Forms.{row_text, rows_text}
+use Rattle.dk_table.specs.Tables.Placed.{Placed}
+use Rattle.dk_table.specs.Streams.Stages.{steps_by}
+use Rattle.dk_table.specs.Streams.Stops.{Gathers, stop_of_halt}
 use Rattle.dk_table.specs.Streams.{Step, first_refusal, row_steps, rows_before, told_steps}
 use Rattle.dk_table.specs.Traces.{bad_cell, is_told}
 use Rattle.dk_table.specs.Writing.{HaltHasCause, IsTold}
 use Rattle.dk_table.specs.declared.columns.ColumnKind.{ColumnKind}
 use Rattle.dk_table.specs.declared.faults.Refusal.{Refusal}
-use Rattle.dk_table.specs.declared.stops.Stop.{Stop}
-use Rattle.dk_table.specs.declared.stops.Stop.TheVariants.{Refused}
+use Rattle.dk_table.specs.declared.streaming.stops.Stop.{Stop}
+use Rattle.dk_table.specs.declared.streaming.stops.Stop.TheVariants.{Refused}
 use Rattle.dk_table.specs.declared.writing.Form.{Form}
 use Rattle.dk_table.specs.declared.writing.Halt.{Halt}
 use Rattle.dk_table.proofs.Pieces.{told_nothing}

@@ -5,8 +5,8 @@ use Rattle.dk_arguments.specs.Descriptions.{Command as Accepted, flag, number, p
 use Rattle.dk_arguments.specs.Given.{is_given, number_at, text_at, texts_at}
 use Rattle.dk_arguments.specs.declared.fault.ArgumentsFault.{ArgumentsFault}
 use Rattle.dk_arguments.specs.declared.fault.ArgumentsFault.TheVariants.{Refused, NoMemory}
-use Rattle.dk_table.specs.declared.texts.TheConstants.{HELP_TEXT, USAGE_LINE, VERSION_TEXT}
 use Rattle.dk_table.specs.declared.words.TableArguments.{TableArguments}
+use Rattle.dk_table.specs.declared.words.texts.TheConstants.{HELP_TEXT, USAGE_LINE, VERSION_TEXT}
 
 abbrev pub table_command : Accepted
 table_command = record {

@@ -1,4 +1,6 @@
 -- What a column has.
+pub mod Cells
+pub mod Judging
 use Rattle.std.specs.Prelude.{◌∷◌, [], Bool, ℕ, List, Option, Some, find, is_some, unwrap_or, option_map, if◌then◌else◌}
 use Rattle.std.specs.List.{list_all}
 use Rattle.dk_base.specs.Pieces.{is_empty}
@@ -6,7 +8,7 @@ use Rattle.dk_base.specs.declared.values.Value.{Value}
 use Rattle.dk_base.specs.declared.values.Value.TheVariants as value
 use Rattle.dk_lines.specs.Passing.{joined}
 use Rattle.dk_write.specs.Records.{mark_text, value_text}
-use Rattle.dk_table.specs.Cells.{decimal_of, quoted, truth, whole}
+use Rattle.dk_table.specs.Columns.Cells.{decimal_of, quoted, truth, whole}
 use Rattle.dk_table.specs.declared.columns.TheConstants.{CANDIDATES}
 use Rattle.dk_table.specs.declared.columns.ColumnKind.{ColumnKind}
 use Rattle.dk_table.specs.declared.columns.ColumnKind.TheVariants as kind

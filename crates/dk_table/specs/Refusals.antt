@@ -1,4 +1,5 @@
 -- The reasons for which a table is refused, by number and by name.
+pub mod Messages
 use Rattle.std.specs.Prelude.{◌++◌, ℕ, List, codes}
 use Rattle.std.specs.Fmt.{decimal}
 use Rattle.dk_table.specs.declared.faults.TableWhy.{TableWhy}

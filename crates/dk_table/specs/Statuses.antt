@@ -1,4 +1,5 @@
 -- What each status of a run says.
+pub mod Ends
 use Rattle.std.specs.Prelude.{◌≡◌, ◌<◌, ◌⊎◌, [], ℕ, suc, List, Option, Some, None, Result, Ok, Err, length, unwrap_or}
 use Rattle.dk_arguments.specs.declared.request.Request.{Request}
 use Rattle.dk_arguments.specs.declared.request.Request.TheVariants.{Run, Help, Version}
@@ -14,9 +15,9 @@ use Rattle.dk_program.specs.Outputs.{FollowedByFront, Output, only_on}
 use Rattle.dk_program.specs.Statuses.{GivesOutput, OutputIsWritten}
 use Rattle.dk_write.specs.Texts.{Write as Block, trace_text}
 use Rattle.dk_table.specs.Asked.{table_command}
-use Rattle.dk_table.specs.Contents.{AreReadAs, IsFrontBy, Reached, helds_of}
-use Rattle.dk_table.specs.Messages.{refusal_line}
+use Rattle.dk_table.specs.Refusals.Messages.{refusal_line}
 use Rattle.dk_table.specs.Streams.{Stream as Written, nothing, nothing_but, stream_at, stream_in}
+use Rattle.dk_table.specs.Tables.Contents.{AreReadAs, IsFrontBy, Reached, helds_of}
 use Rattle.dk_table.specs.Traces.{trace_at}
 use Rattle.dk_table.specs.declared.faults.Refusal.{Refusal}
 use Rattle.dk_table.specs.declared.words.TableArguments.{TableArguments}

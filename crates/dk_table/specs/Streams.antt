@@ -1,15 +1,19 @@
 -- Tables whose rows are written as they come, where kinds are found by the rows in front.
+pub mod Pieces
+pub mod Progress
+pub mod Stages
+pub mod Stops
 use Rattle.std.specs.Prelude.{◌&&◌, ◌||◌, ◌+◌, ◌==◌, ◌++◌, ◌∷◌, [], ℕ, zero, suc, Bool, true, false, List, Option, Some, None, Result, Ok, Err, flat_map, is_none, length, map, nat_le, take, if◌then◌else◌}
 use Rattle.csv.specs.Reading.{records}
 use Rattle.dk_decl.specs.declared.decls.PointDecl.{PointDecl}
 use Rattle.dk_write.specs.Texts.{Write}
-use Rattle.dk_table.specs.Placed.{Placed}
 use Rattle.dk_table.specs.Tables.{◌>>=◌, are_paired, config_by, is_uneven, names_by, placed_from, refused, rows_in, same_cells}
+use Rattle.dk_table.specs.Tables.Placed.{Placed}
 use Rattle.dk_table.specs.Traces.{are_named, bad_cell, declaration_of, is_told, kinds_of, records_of, writes_of}
 use Rattle.dk_table.specs.declared.columns.ColumnKind.{ColumnKind}
-use Rattle.dk_table.specs.declared.command.Command.{Command}
 use Rattle.dk_table.specs.declared.faults.Refusal.{Refusal}
 use Rattle.dk_table.specs.declared.faults.TableWhy.TheVariants.{BadName, NoHeader, OpenQuote, OtherHeader, RowLength}
+use Rattle.dk_table.specs.declared.words.command.Command.{Command}
 
 -- ---- rows in order, and what is refused among them
 -- A row that stands, or why the table is refused at this place.

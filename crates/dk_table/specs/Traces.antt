@@ -12,14 +12,14 @@ use Rattle.dk_write.specs.Records.{Recorded}
 use Rattle.dk_write.specs.Texts.{Begins, Declares, Records, Write}
 use Rattle.dk_write.specs.Writable.{can_declare, can_record}
 use Rattle.dk_table.specs.Columns.{cell_value, kind_of_column}
-use Rattle.dk_table.specs.Placed.{Placed, cells_at}
+use Rattle.dk_table.specs.Tables.Placed.{Placed, cells_at}
 use Rattle.dk_table.specs.Tables.{◌>>=◌, bodies_in, first_of, names_of, refused, rows_in, rows_of_all}
-use Rattle.dk_table.specs.declared.command.Command.{Command}
+use Rattle.dk_table.specs.declared.words.command.Command.{Command}
 use Rattle.dk_table.specs.declared.columns.ColumnKind.{ColumnKind}
 use Rattle.dk_table.specs.declared.columns.ColumnKind.TheVariants as kind
 use Rattle.dk_table.specs.declared.faults.Refusal.{Refusal}
 use Rattle.dk_table.specs.declared.faults.TableWhy.TheVariants.{BadCell, BadName}
-use Rattle.dk_table.specs.declared.traces.Plan.{Plan}
+use Rattle.dk_table.specs.declared.writing.traces.Plan.{Plan}
 
 -- the rows by which kinds are found: so many, or all
 abbrev pub judged : Option ℕ → List Placed → List Placed

@@ -2,7 +2,10 @@
 ghost use Rattle.std.specs.Prelude.{◌≡◌, IfOk, is_some};
 ghost use Rattle.dk_table.specs.Columns.{cell_value, written_value};
 
-use crate::cells::{TruthWords, is_decimal, is_whole, truth};
+pub(crate) mod cells;
+pub(crate) mod judging;
+
+use crate::columns::cells::{TruthWords, is_decimal, is_whole, truth};
 use dk_base::NoMemory;
 
 /// How the cells of a column are read.

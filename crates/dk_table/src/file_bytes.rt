@@ -1,8 +1,8 @@
 // The bytes of a file that is read.
 ghost use Rattle.std.specs.Prelude.{◌≡◌, IsTrue};
-ghost use Rattle.dk_table.specs.Cutting.{IsUnquoted};
+ghost use Rattle.dk_table.specs.Tables.Cutting.{IsUnquoted};
 
-use crate::lines::is_unquoted;
+use crate::rows::lines::is_unquoted;
 use dk_base::Text;
 use std::marker::Model;
 
@@ -15,7 +15,7 @@ pub(crate) struct FileBytes {
 
 impl Model for FileBytes {
     ghost use Rattle.std.specs.Prelude.{List, ℕ, IsTrue};
-    ghost use Rattle.dk_table.specs.Cutting.{IsUnquoted};
+    ghost use Rattle.dk_table.specs.Tables.Cutting.{IsUnquoted};
 
     ghost Value = { List ℕ };
 

@@ -2,7 +2,7 @@
 ghost use Rattle.std.specs.Prelude.{◌≡◌, ◌≤◌, IfErr, IfOk};
 ghost use Rattle.dk_driver.specs.Files.{file_name_at};
 ghost use Rattle.dk_io.specs.Outside.{Rose};
-ghost use Rattle.dk_table.specs.Contents.{AreReadAs, FaultSays, OwnFaultSays, ReadAs, helds_of};
+ghost use Rattle.dk_table.specs.Tables.Contents.{AreReadAs, FaultSays, OwnFaultSays, ReadAs, helds_of};
 
 use crate::file_bytes::FileBytes;
 use dk_arguments::Word;

@@ -1,14 +1,18 @@
 // The rows of a file, one after another.
 ghost use Rattle.std.specs.Prelude.{◌≡◌, ◌<◌, ◌+◌, ◌^◌, IfOk, drop, length};
 ghost use Rattle.csv.specs.Reading.{records, strip_bom};
-ghost use Rattle.dk_table.specs.Cursors.{Moves};
-ghost use Rattle.dk_table.specs.Placed.{cell_at};
 ghost use Rattle.dk_table.specs.Tables.{body_in, config_by, placed_from, rows_in};
+ghost use Rattle.dk_table.specs.Tables.Cursors.{Moves};
+ghost use Rattle.dk_table.specs.Tables.Placed.{cell_at};
 
-use crate::command::Command;
+pub(crate) mod lines;
+mod marks;
+mod records;
+
 use crate::file_bytes::FileBytes;
-use crate::lines::Lines;
-use crate::records::Records;
+use crate::rows::lines::Lines;
+use crate::rows::records::Records;
+use crate::words::command::Command;
 use dk_base::NoMemory;
 use std::alloc::Global;
 use std::marker::Model;
@@ -27,8 +31,8 @@ pub(crate) struct Rows<'a> {
 }
 
 impl<'a> Model for Rows<'a> {
-    ghost use Rattle.dk_table.specs.Cursors.{Cursor};
-    ghost use Rattle.dk_table.specs.Sources.{cursor_of};
+    ghost use Rattle.dk_table.specs.Tables.Cursors.{Cursor};
+    ghost use Rattle.dk_table.specs.Tables.Sources.{cursor_of};
 
     ghost Value = { Cursor };
 

@@ -1,14 +1,14 @@
 // The rows and the columns' names of the tables in some files.
 ghost use Rattle.std.specs.Prelude.{◌≡◌, ◌-◌, ◌^◌, ◌<◌, IfOk, Ok, length};
-ghost use Rattle.dk_table.specs.Judging.{judging_rows};
+ghost use Rattle.dk_table.specs.Columns.Judging.{judging_rows};
 ghost use Rattle.dk_table.specs.Outcomes.{Answers};
 ghost use Rattle.dk_table.specs.Tables.{are_paired, file_rows, first_of, if_even, made_name, made_names, names_by, names_of, rows_in, rows_of, rows_of_all, same_cells, uneven_row};
 
-use crate::command::Command;
+use crate::columns::judging::Judge;
 use crate::faults::{Refusal, TableFault, TableWhy};
 use crate::file_bytes::FileBytes;
-use crate::judging::Judge;
 use crate::rows::Rows;
+use crate::words::command::Command;
 use dk_base::{List, NoMemory, Text, same_bytes};
 use itoa::Buffer;
 use std::alloc::Global;

@@ -9,8 +9,8 @@ ghost use Rattle.dk_table.specs.Asked.{meant, table_command};
 ghost use Rattle.dk_table.specs.Statuses.{Completes, Says};
 
 use crate::run::run_over;
-use crate::texts::{HELP_TEXT, VERSION_TEXT};
 use crate::words::TableArguments;
+use crate::words::texts::{HELP_TEXT, VERSION_TEXT};
 use dk_arguments::{ArgumentsFault, Request, read_arguments};
 use dk_events::Ended;
 use dk_io::{Inputs, Sinks, Stream};

@@ -1,8 +1,11 @@
 // The words of the command.
 ghost use Rattle.dk_table.specs.Asked.{SeparatorIs};
 
-use crate::command::Command;
-use crate::texts::{HELP_TEXT, USAGE_LINE, VERSION_TEXT};
+pub(crate) mod command;
+pub(crate) mod texts;
+
+use crate::words::command::Command;
+use crate::words::texts::{HELP_TEXT, USAGE_LINE, VERSION_TEXT};
 use dk_arguments::{Argument, Arguments, ArgumentsFault, Description, Form, Matches, Word};
 use dk_base::List;
 use std::alloc::Global;

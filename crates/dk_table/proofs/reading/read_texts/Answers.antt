@@ -2,7 +2,7 @@ use Rattle.std.proofs.Common.{[], ◌≤◌, ◌<◌, ◌∙◌, arith, length, 
 use Rattle.std.proofs.lemmas.List.{take_all}
 use Rattle.dk_io.specs.Outside.{HeldFile, Rose}
 use Rattle.dk_table.proofs.Contents.{fault_at, helds_length, read_more, rose_since}
-use Rattle.dk_table.specs.Contents.{AreReadAs, OwnFaultSays, ReadAs, helds_of}
+use Rattle.dk_table.specs.Tables.Contents.{AreReadAs, OwnFaultSays, ReadAs, helds_of}
 use Rattle.dk_table.proofs.reading.read_texts.Goals as goal
 
 pub loop-place-init : goal.loop-place-init

@@ -1,5 +1,5 @@
 use Rattle.std.proofs.Common.{◌≡◌, ◌≤◌, take}
-use Rattle.dk_table.specs.Contents.{AreReadAs, helds_of}
+use Rattle.dk_table.specs.Tables.Contents.{AreReadAs, helds_of}
 use Rattle.dk_table.proofs.reading.read_texts.Given as goal
 
 abbrev pub invariant-loop-place : goal.invariant-loop-place

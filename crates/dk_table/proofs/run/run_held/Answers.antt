@@ -3,7 +3,7 @@ use Rattle.dk_io.specs.Outside.{HeldFile, Rose}
 use Rattle.dk_program.specs.Ending.{EndsBy}
 use Rattle.dk_table.proofs.Contents.{fault_placed}
 use Rattle.dk_table.proofs.Saying.{fault_completes, fault_says, read_completes, read_says}
-use Rattle.dk_table.specs.Contents.{AreReadAs, FaultSays, helds_of}
+use Rattle.dk_table.specs.Tables.Contents.{AreReadAs, FaultSays, helds_of}
 use Rattle.dk_table.proofs.run.run_held.Goals as goal
 
 pub tell_fault-requires : goal.tell_fault-requires

@@ -1,7 +1,7 @@
 use Rattle.std.proofs.Common.{◌∙◌, ap, List, ℕ}
 use Rattle.dk_driver.specs.Files.{file_name_at}
 use Rattle.dk_program.proofs.Saying.{refused_ends}
-use Rattle.dk_table.specs.Messages.{refusal_line}
+use Rattle.dk_table.specs.Refusals.Messages.{refusal_line}
 use Rattle.dk_table.proofs.run.tell_refused.Goals as goal
 
 pub returns-in-Ok : goal.returns-in-Ok

@@ -4,7 +4,7 @@ use Rattle.dk_events.specs.declared.ended.Ended.TheVariants.{Refused}
 use Rattle.dk_io.specs.declared.outside.Stream.TheVariants.{Messages}
 use Rattle.dk_program.specs.Ending.{EndsWith}
 use Rattle.dk_table.proofs.Saying.{refusal_ends, table_ends}
-use Rattle.dk_table.specs.Messages.{refusal_line}
+use Rattle.dk_table.specs.Refusals.Messages.{refusal_line}
 use Rattle.dk_table.specs.Traces.{plan_writes, trace_at}
 use Rattle.dk_table.proofs.run.tell_texts.Goals as goal
 

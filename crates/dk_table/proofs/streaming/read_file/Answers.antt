@@ -1,7 +1,7 @@
 use Rattle.std.proofs.Common.{◌≡◌, ◌≤◌, ◌∙◌, ap, arith, Err, List, Ok, sym, ℕ}
 use Rattle.dk_driver.specs.Reads.{held_file_at}
 use Rattle.dk_io.specs.Outside.{HeldFile, Rose}
-use Rattle.dk_table.specs.Contents.{helds_of}
+use Rattle.dk_table.specs.Tables.Contents.{helds_of}
 use Rattle.dk_table.proofs.Contents.{held_named}
 use Rattle.dk_table.proofs.Gathering.{rose_before}
 use Rattle.dk_table.proofs.Onward.{begin_file, opened_at, unopened_says}

@@ -1,7 +1,7 @@
 use Rattle.std.proofs.Common.{◌∙◌, arith, List, ℕ, refl, subst, sym}
 use Rattle.std.proofs.lemmas.Result.{err_from_is_err_and}
 use Rattle.dk_io.specs.Outside.{HeldFile, Rose}
-use Rattle.dk_table.specs.Progress.{StopSays}
+use Rattle.dk_table.specs.Streams.Progress.{StopSays}
 use Rattle.dk_table.proofs.Onward.{going_as, none_more}
 use Rattle.dk_table.proofs.streaming.take_file.Goals as goal
 

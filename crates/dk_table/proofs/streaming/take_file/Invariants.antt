@@ -1,7 +1,7 @@
 use Rattle.std.proofs.Common.{◌≡◌, ◌≤◌, List, ℕ}
 use Rattle.dk_io.specs.Outside.{Rose}
 use Rattle.dk_io.specs.Streams.{Texts}
-use Rattle.dk_table.specs.Progress.{IsGoing}
+use Rattle.dk_table.specs.Streams.Progress.{IsGoing}
 use Rattle.dk_table.proofs.streaming.take_file.Given as goal
 
 abbrev pub invariant-pieces : goal.invariant-pieces

@@ -1,9 +1,9 @@
 use Rattle.std.proofs.Common.{◌++◌, length, List}
 use Rattle.std.proofs.lemmas.Result.{err_from_is_err_and}
-use Rattle.dk_table.specs.Placed.{Placed}
-use Rattle.dk_table.specs.Progress.{all_rows}
+use Rattle.dk_table.specs.Tables.Placed.{Placed}
+use Rattle.dk_table.specs.Streams.Progress.{all_rows}
 use Rattle.dk_table.specs.Streams.{text_rows}
-use Rattle.dk_table.specs.declared.advancing.Place.{Place}
+use Rattle.dk_table.specs.declared.streaming.advancing.Place.{Place}
 use Rattle.dk_table.proofs.Onward.{goes_ended, none_more, refused_ended, stops_ended}
 use Rattle.dk_table.proofs.streaming.take_last.Goals as goal
 

@@ -1,9 +1,9 @@
 use Rattle.std.proofs.Common.{Ok, Err, subst}
 use Rattle.std.proofs.lemmas.Result.{err_from_is_err_and}
-use Rattle.dk_table.specs.Stages.{IsAt, IsBody, IsFront}
-use Rattle.dk_table.specs.declared.stages.Body.{Body}
-use Rattle.dk_table.specs.declared.stages.Stage.{Stage}
-use Rattle.dk_table.specs.declared.stages.Stage.TheVariants as stages
+use Rattle.dk_table.specs.Streams.Stages.{IsAt, IsBody, IsFront}
+use Rattle.dk_table.specs.declared.streaming.stages.Body.{Body}
+use Rattle.dk_table.specs.declared.streaming.stages.Stage.{Stage}
+use Rattle.dk_table.specs.declared.streaming.stages.Stage.TheVariants as stages
 use Rattle.dk_table.proofs.Closing.{body_ends, held_end, none_came}
 use Rattle.dk_table.proofs.Opened.{stop_recast}
 use Rattle.dk_table.proofs.streaming.tell_ended.Goals as goal

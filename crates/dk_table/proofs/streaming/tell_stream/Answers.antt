@@ -1,7 +1,7 @@
 use Rattle.std.proofs.Common.{[], ◌≤◌, ◌+◌, ◌++◌, ◌∷◌, ◌∙◌, arith, inl, length, List, ℕ, refl, subst, sym}
 use Rattle.std.proofs.lemmas.Result.{err_from_is_err_and}
 use Rattle.dk_io.specs.Outside.{HeldFile, Rose}
-use Rattle.dk_table.specs.Progress.{AreBehind, StopSays, all_rows}
+use Rattle.dk_table.specs.Streams.Progress.{AreBehind, StopSays, all_rows}
 use Rattle.dk_table.proofs.Closing.{all_says, none_behind}
 use Rattle.dk_table.proofs.streaming.tell_stream.Goals as goal
 

@@ -1,5 +1,5 @@
 use Rattle.std.proofs.Common.{◌≡◌, ◌≤◌, List, ℕ}
-use Rattle.dk_table.specs.Progress.{AreBehind}
+use Rattle.dk_table.specs.Streams.Progress.{AreBehind}
 use Rattle.dk_table.proofs.streaming.tell_stream.Given as goal
 
 abbrev pub invariant-loop-file : goal.invariant-loop-file

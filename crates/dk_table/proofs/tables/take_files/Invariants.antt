@@ -1,5 +1,5 @@
 use Rattle.std.proofs.Common.{◌≡◌, drop}
-use Rattle.dk_table.specs.Judging.{judging_rows}
+use Rattle.dk_table.specs.Columns.Judging.{judging_rows}
 use Rattle.dk_table.specs.Tables.{rows_of_all}
 use Rattle.dk_table.proofs.tables.take_files.Given as goal
 

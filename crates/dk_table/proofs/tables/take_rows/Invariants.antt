@@ -1,5 +1,5 @@
 use Rattle.std.proofs.Common.{◌≡◌, length}
-use Rattle.dk_table.specs.Judging.{judging_all}
+use Rattle.dk_table.specs.Columns.Judging.{judging_all}
 use Rattle.dk_table.specs.Tables.{uneven_row}
 use Rattle.dk_table.proofs.tables.take_rows.Given as goal
 

@@ -1,7 +1,7 @@
 use Rattle.std.proofs.Common.{◌<◌, ◌∙◌, ◌∷◌, ◌++◌, [], ap, arith, get_or, length}
 use Rattle.std.proofs.lemmas.List.{get_or_default}
 use Rattle.dk_table.proofs.Pairs.{zip_all, zip_more}
-use Rattle.dk_table.specs.Forms.{heading_of}
+use Rattle.dk_table.specs.Writing.Forms.{heading_of}
 use Rattle.dk_table.specs.declared.columns.ColumnKind.{ColumnKind}
 use Rattle.dk_table.specs.declared.columns.ColumnKind.TheVariants as kind
 use Rattle.dk_table.specs.declared.writing.Heading.{Heading}

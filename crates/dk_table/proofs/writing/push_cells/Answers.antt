@@ -5,8 +5,8 @@ use Rattle.dk_table.proofs.Pairs.{zip_ends, zip_goes, zip_text, zip_text_all}
 use Rattle.dk_table.proofs.Pushed.{pushed_cell, pushed_fits, pushed_none}
 use Rattle.dk_table.proofs.Rowed.{all_fitted, line_past, line_there, one_unfit}
 use Rattle.dk_table.specs.Columns.{cell_value}
-use Rattle.dk_table.specs.Forms.{cell_lines, line_at, row_fits}
-use Rattle.dk_table.specs.Pushing.{Pushes}
+use Rattle.dk_table.specs.Writing.Forms.{cell_lines, line_at, row_fits}
+use Rattle.dk_table.specs.Writing.Pushing.{Pushes}
 use Rattle.dk_table.specs.declared.writing.Heading.{Heading}
 use Rattle.dk_table.proofs.writing.push_cells.Goals as goal
 

@@ -1,7 +1,7 @@
 use Rattle.std.proofs.Common.{◌≡◌, ◌++◌, drop, flat_map, is_some, take}
 use Rattle.std.specs.List.{list_all, zip}
 use Rattle.dk_table.specs.Columns.{cell_value}
-use Rattle.dk_table.specs.Forms.{cell_lines, line_at}
+use Rattle.dk_table.specs.Writing.Forms.{cell_lines, line_at}
 use Rattle.dk_table.proofs.writing.push_cells.Given as goal
 
 abbrev pub invariant-loop-i : goal.invariant-loop-i

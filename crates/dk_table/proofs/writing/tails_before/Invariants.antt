@@ -1,5 +1,5 @@
 use Rattle.std.proofs.Common.{◌≡◌, map, take}
-use Rattle.dk_table.specs.Forms.{tail_of}
+use Rattle.dk_table.specs.Writing.Forms.{tail_of}
 use Rattle.dk_table.proofs.writing.tails_before.Given as goal
 
 abbrev pub invariant-loop-heading : goal.invariant-loop-heading

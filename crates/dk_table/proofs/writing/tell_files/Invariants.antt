@@ -1,7 +1,7 @@
 use Rattle.std.proofs.Common.{◌≡◌, ◌++◌, drop, true}
-use Rattle.dk_table.specs.Forms.{all_fit, rows_text}
 use Rattle.dk_table.specs.Tables.{bodies_in}
 use Rattle.dk_table.specs.Writing.{IsTold}
+use Rattle.dk_table.specs.Writing.Forms.{all_fit, rows_text}
 use Rattle.dk_table.proofs.writing.tell_files.Given as goal
 
 abbrev pub invariant-loop-file : goal.invariant-loop-file

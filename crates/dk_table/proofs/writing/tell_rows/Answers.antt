@@ -3,8 +3,8 @@ use Rattle.std.proofs.lemmas.Result.{err_from_is_err_and}
 use Rattle.dk_table.proofs.Fitting.{fits_now}
 use Rattle.dk_table.proofs.Formed.{row_apart}
 use Rattle.dk_table.proofs.Pieces.{cut_here, cut_then, told_as, told_then}
-use Rattle.dk_table.specs.Cursors.{Moves}
-use Rattle.dk_table.specs.Forms.{row_text, rows_text}
+use Rattle.dk_table.specs.Tables.Cursors.{Moves}
+use Rattle.dk_table.specs.Writing.Forms.{row_text, rows_text}
 use Rattle.dk_table.proofs.writing.tell_rows.Goals as goal
 
 pub returns-in_err-next : goal.returns-in_err-next

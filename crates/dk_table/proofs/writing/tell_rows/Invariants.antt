@@ -1,6 +1,6 @@
 use Rattle.std.proofs.Common.{◌≡◌, ◌++◌, length, true}
-use Rattle.dk_table.specs.Forms.{all_fit, rows_text}
 use Rattle.dk_table.specs.Writing.{IsTold}
+use Rattle.dk_table.specs.Writing.Forms.{all_fit, rows_text}
 use Rattle.dk_table.proofs.writing.tell_rows.Given as goal
 
 abbrev pub invariant-rows : goal.invariant-rows

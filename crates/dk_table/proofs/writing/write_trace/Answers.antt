@@ -7,11 +7,11 @@ use Rattle.dk_table.proofs.Fitting.{told_fit}
 use Rattle.dk_table.proofs.Formed.{plan_told}
 use Rattle.dk_table.proofs.Pieces.{wrote_last}
 use Rattle.dk_table.proofs.Rowed.{formed_of}
-use Rattle.dk_table.specs.Forms.{all_fit, form_of, rows_text}
-use Rattle.dk_table.specs.Placed.{Placed}
 use Rattle.dk_table.specs.Tables.{bodies_in}
+use Rattle.dk_table.specs.Tables.Placed.{Placed}
 use Rattle.dk_table.specs.Traces.{plan_writes}
 use Rattle.dk_table.specs.Writing.{HaltHasCause, TellsFront}
+use Rattle.dk_table.specs.Writing.Forms.{all_fit, form_of, rows_text}
 use Rattle.dk_table.specs.declared.writing.Form.{Form}
 use Rattle.dk_table.proofs.writing.write_trace.Goals as goal
 

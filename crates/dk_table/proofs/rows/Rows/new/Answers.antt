@@ -1,6 +1,6 @@
 use Rattle.std.proofs.Common.{◌<◌, ◌∙◌, ap, arith, length, rules, subst, sym}
 use Rattle.csv.specs.Reading.{strip_bom}
-use Rattle.dk_table.specs.Cutting.{IsUnquoted}
+use Rattle.dk_table.specs.Tables.Cutting.{IsUnquoted}
 use Rattle.dk_table.specs.Tables.{config_by}
 use Rattle.dk_table.proofs.AllRecords.{few_placed}
 use Rattle.dk_table.proofs.Cutting.{unquoted_behind}

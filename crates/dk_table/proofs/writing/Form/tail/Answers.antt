@@ -1,7 +1,7 @@
 use Rattle.std.proofs.Common.{◌∙◌, ap, arith, get_or, List}
 use Rattle.dk_table.proofs.Rowed.{tail_there}
-use Rattle.dk_table.specs.declared.tails.Tail.{Tail}
 use Rattle.dk_table.specs.declared.writing.Form.{Form}
+use Rattle.dk_table.specs.declared.writing.tails.Tail.{Tail}
 use Rattle.dk_table.proofs.writing.Form.tail.Goals as goal
 
 pub returns-then-place-width : goal.returns-then-place-width

@@ -1,5 +1,0 @@
-use Rattle.dk_table.proofs.Chunked.{Found}
-use Rattle.dk_table.proofs.chunks.whole_records.Given as goal
-
-abbrev pub invariant-loop-place : goal.invariant-loop-place
-invariant-loop-place l = Found l.separator l.bytes l.place l.whole l.stand
