@@ -12,12 +12,12 @@ use Rattle.std.proofs.lemmas.Int.Digits.{digits_value-lt}
 use Rattle.std.proofs.lemmas.List.{get_or-take, length-take-le, take_all, take-append-drop}
 use Rattle.std.proofs.lemmas.List.Sums.{prefix_len_passes, prefix_len-le-length}
 use Rattle.core.specs.Float.Numeral.{digits_len}
-use Rattle.dk_base.specs.Items.{int_item, item_in_range}
+use Rattle.dk_base.specs.Values.Items.{int_item, item_in_range}
 use Rattle.dk_base.specs.Numbers.{fits_i64, negated, numeral_of, short_digits, short_number, signed, whole_of}
 use Rattle.dk_base.specs.Pieces.{pieces}
-use Rattle.dk_base.specs.Sequences.{IsFrontItem}
-use Rattle.dk_base.specs.declared.items.Item.{Item}
-use Rattle.dk_base.specs.declared.items.Item.TheVariants.{Present}
+use Rattle.dk_base.specs.Values.Sequences.{IsFrontItem}
+use Rattle.dk_base.specs.declared.values.items.Item.{Item}
+use Rattle.dk_base.specs.declared.values.items.Item.TheVariants.{Present}
 use Rattle.dk_base.specs.declared.splitting.Cut.TheVariants.{AtBlanksOutsideQuotes}
 use Rattle.dk_base.proofs.Splits.{piece_in_front, piece_to_end}
 use Rattle.dk_base.proofs.Wordless.{int_by_number}

@@ -1,14 +1,14 @@
 -- Small examples, computed from the definitions.
 use Rattle.std.proofs.Common.{◌≡◌, ◌∷◌, [], pos, negsuc, true, Some, None, codes, refl}
 use Rattle.dk_base.specs.Comparability.{comparable}
-use Rattle.dk_base.specs.Items.{hash_code_of, hash_item, int_item, is_quoted, is_text, str_item}
 use Rattle.dk_base.specs.Names.{unescaped}
 use Rattle.dk_base.specs.Numbers.{whole_of}
 use Rattle.dk_base.specs.Pieces.{pieces}
-use Rattle.dk_base.specs.Sequences.{sequence}
 use Rattle.dk_base.specs.Shapes.{shape, var, with_derived}
-use Rattle.dk_base.specs.Spelling.{spelling}
 use Rattle.dk_base.specs.Values.{value_of_text}
+use Rattle.dk_base.specs.Values.Items.{hash_code_of, hash_item, int_item, is_quoted, is_text, str_item}
+use Rattle.dk_base.specs.Values.Sequences.{sequence}
+use Rattle.dk_base.specs.Values.Spelling.{spelling}
 use Rattle.dk_base.specs.Words.{rest_of_line, trim_blanks, words}
 use Rattle.dk_base.specs.declared.kinds.Form.TheVariants as form
 use Rattle.dk_base.specs.declared.kinds.Kind.TheVariants as kind

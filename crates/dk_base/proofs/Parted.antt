@@ -2,7 +2,7 @@
 use Rattle.std.proofs.Common.{◌≡◌, ◌∷◌, [], ℕ, Bool, true, false, List, refl, ap, cond}
 use Rattle.std.specs.List.{slice_split, onto_first}
 use Rattle.dk_base.specs.Pieces.{outside, parts, pieces, nonempty, is_blank}
-use Rattle.dk_base.specs.WordLaws.{WordsArePartsBetweenBlanks}
+use Rattle.dk_base.specs.Words.WordLaws.{WordsArePartsBetweenBlanks}
 use Rattle.dk_base.specs.declared.splitting.Cut.TheVariants.{AtBlanksAndTabs}
 
 -- a part in front of others, by whether the next byte cuts

@@ -10,15 +10,15 @@ use Rattle.std.proofs.lemmas.Fmt.{digits_is_IsNumeral}
 use Rattle.std.proofs.lemmas.List.{get_or_push, length_push, map-id, take_at}
 use Rattle.std.proofs.lemmas.List.Elements.{All-head, All-map, All-tail, All-weaker}
 use Rattle.std.proofs.lemmas.Slice.Eq.{bytes_eq-Decides}
-use Rattle.dk_base.specs.Items.{bool_item, closes_quote, hash_code_of, hash_item, int_item, is_missing_word, is_quoted, is_text, str_item}
+use Rattle.dk_base.specs.Values.Items.{bool_item, closes_quote, hash_code_of, hash_item, int_item, is_missing_word, is_quoted, is_text, str_item}
 use Rattle.dk_base.specs.Numbers.{fits_i64, numeral_of, whole_of}
 use Rattle.dk_base.specs.Pieces.{behind, is_empty, outside, parts, nonempty, pieces}
-use Rattle.dk_base.specs.Sequences.{all_of, inside, is_bad, is_missing, present, sequence}
-use Rattle.dk_base.specs.Spelling.{IsWritten, bool_text, hash_text, sequence_text, spelling}
+use Rattle.dk_base.specs.Values.Sequences.{all_of, inside, is_bad, is_missing, present, sequence}
+use Rattle.dk_base.specs.Values.Spelling.{IsWritten, bool_text, hash_text, sequence_text, spelling}
 use Rattle.dk_base.specs.Values.{IsOfKind, value_of_text}
 use Rattle.dk_base.proofs.Splits.{kept}
-use Rattle.dk_base.specs.declared.items.Item.{Item}
-use Rattle.dk_base.specs.declared.items.Item.TheVariants.{Present}
+use Rattle.dk_base.specs.declared.values.items.Item.{Item}
+use Rattle.dk_base.specs.declared.values.items.Item.TheVariants.{Present}
 use Rattle.dk_base.specs.declared.kinds.Kind.{Kind}
 use Rattle.dk_base.specs.declared.kinds.Kind.TheVariants as kind
 use Rattle.dk_base.specs.declared.splitting.Cut.TheVariants.{AtBlanksOutsideQuotes}

@@ -6,7 +6,7 @@ use Rattle.std.proofs.lemmas.Bool.Decides.{Decides-int_eq, Decides-eqb, same_fro
 use Rattle.std.specs.Bool.{IsTrue}
 use Rattle.dk_base.specs.declared.values.Value.{Value}
 use Rattle.dk_base.specs.declared.values.Value.TheVariants as value
-use Rattle.dk_base.specs.SameValues.{same_value}
+use Rattle.dk_base.specs.Values.SameValues.{same_value}
 
 pub beq_decides : (a b : Bool) → Decides (beq a b) (a ≡ b)
 beq_decides true true = (λ h. refl, λ h. refl)

@@ -4,10 +4,10 @@ use Rattle.std.specs.Prelude.{unsigned_abs}
 use Rattle.std.specs.Str.{bytes_eq}
 use Rattle.std.proofs.lemmas.Bool.{false_from_ne_true, or_from}
 use Rattle.std.proofs.lemmas.Slice.Eq.{bytes_eq-Decides}
-use Rattle.dk_base.specs.Items.{hash_code_of, hash_item, int_item, is_missing_word, item_in_range, item_map}
 use Rattle.dk_base.specs.Numbers.{fits_i64, fits_u64, whole_of}
-use Rattle.dk_base.specs.declared.items.Item.{Item}
-use Rattle.dk_base.specs.declared.items.Item.TheVariants.{Bad}
+use Rattle.dk_base.specs.Values.Items.{hash_code_of, hash_item, int_item, is_missing_word, item_in_range, item_map}
+use Rattle.dk_base.specs.declared.values.items.Item.{Item}
+use Rattle.dk_base.specs.declared.values.items.Item.TheVariants.{Bad}
 
 -- where a function gives nothing for a word and something for the text, the text is not that word
 no_word : {A : Type 0} (f : List ℕ → Item A) (text word : List ℕ) → f word ≡ Bad → (f text ≡ Bad → ⊥) → bytes_eq text word ≡ false

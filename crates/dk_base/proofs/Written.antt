@@ -5,19 +5,19 @@ use Rattle.std.specs.List.{list_any}
 use Rattle.std.specs.Str.{bytes_eq}
 use Rattle.std.proofs.lemmas.Bool.{false≢true, ltb-true}
 use Rattle.std.proofs.lemmas.List.Elements.{All-nil, All-cons}
-use Rattle.dk_base.specs.Items.{bool_item, hash_code_of, hash_item, int_item, is_missing_word, is_text, item_in_range, item_map, str_item}
 use Rattle.dk_base.specs.Numbers.{fits_i64, fits_u64, whole_of}
 use Rattle.dk_base.specs.Pieces.{pieces}
-use Rattle.dk_base.specs.Sequences.{all_of, bracketed, inside, is_bad, is_missing, present, sequence}
-use Rattle.dk_base.specs.Spelling.{IsWritten}
 use Rattle.dk_base.specs.Values.{IsOfKind, value_of_text, valued}
-use Rattle.dk_base.specs.declared.items.Item.{Item}
-use Rattle.dk_base.specs.declared.items.Item.TheVariants.{Bad, Missing, Present}
+use Rattle.dk_base.specs.Values.Items.{bool_item, hash_code_of, hash_item, int_item, is_missing_word, is_text, item_in_range, item_map, str_item}
+use Rattle.dk_base.specs.Values.Sequences.{all_of, bracketed, inside, is_bad, is_missing, present, sequence}
+use Rattle.dk_base.specs.Values.Spelling.{IsWritten}
 use Rattle.dk_base.specs.declared.kinds.Kind.{Kind}
 use Rattle.dk_base.specs.declared.kinds.Kind.TheVariants as kind
 use Rattle.dk_base.specs.declared.splitting.Cut.TheVariants.{AtBlanksOutsideQuotes}
 use Rattle.dk_base.specs.declared.values.Value.{Value}
 use Rattle.dk_base.specs.declared.values.Value.TheVariants as value
+use Rattle.dk_base.specs.declared.values.items.Item.{Item}
+use Rattle.dk_base.specs.declared.values.items.Item.TheVariants.{Bad, Missing, Present}
 
 -- a fact of the value, if the item has one
 abbrev pub IfPresent : {A : Type 0} → (A → Type 0) → Item A → Type 0

@@ -1,10 +1,15 @@
 -- Values, and the texts that write them.
+pub mod Items
+pub mod SameValues
+pub mod Sequences
+pub mod Spelling
+pub mod Tuples
 use Rattle.std.specs.Prelude.{◌≡◌, ℕ, Bool, true, false, List, map, Option, Some, None, IfSome}
 use Rattle.std.specs.Borrow.{Bor}
-use Rattle.dk_base.specs.Items.{bool_item, hash_item, int_item, str_item}
-use Rattle.dk_base.specs.Sequences.{sequence}
-use Rattle.dk_base.specs.declared.items.Item.{Item}
-use Rattle.dk_base.specs.declared.items.Item.TheVariants as item
+use Rattle.dk_base.specs.Values.Items.{bool_item, hash_item, int_item, str_item}
+use Rattle.dk_base.specs.Values.Sequences.{sequence}
+use Rattle.dk_base.specs.declared.values.items.Item.{Item}
+use Rattle.dk_base.specs.declared.values.items.Item.TheVariants as item
 use Rattle.dk_base.specs.declared.kinds.Kind.{Kind}
 use Rattle.dk_base.specs.declared.kinds.Kind.TheVariants as kind
 use Rattle.dk_base.specs.declared.values.View.{View}

@@ -1,4 +1,5 @@
 -- The words of a line.
+pub mod WordLaws
 use Rattle.std.specs.Prelude.{ℕ, List, [], ◌∷◌, drop, reverse, take, if◌then◌else◌}
 use Rattle.std.specs.List.{position_or_len}
 use Rattle.dk_base.specs.Pieces.{pieces}

@@ -1,5 +1,5 @@
 //! What the definitions come to, in the words of the format.
-ghost use Rattle.dk_base.specs.WordLaws.{WordsArePartsBetweenBlanks};
+ghost use Rattle.dk_base.specs.Words.WordLaws.{WordsArePartsBetweenBlanks};
 
 /// The words of a line are the parts between its blanks and tabs that are not empty.
 pub fn words_are_parts_between_blanks()

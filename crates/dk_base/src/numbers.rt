@@ -1,10 +1,12 @@
 // Whole numbers as text.
 ghost use Rattle.std.specs.Prelude.{◌≡◌, ◌+◌, ◌*◌, ◌^◌, ◌<◌, ◌≤◌, option_and_then, option_map, pos, Some, if◌then◌else◌};
 ghost use Rattle.std.specs.Char.{digit_value as value_of_digit};
-ghost use Rattle.dk_base.specs.Items.{item_in_range, item_in_u64};
 ghost use Rattle.dk_base.specs.Numbers.{fits_i64, in_u64, integer_of, natural_of, negated, numeral_of, short_digits, short_number, signed, whole_of};
+ghost use Rattle.dk_base.specs.Values.Items.{item_in_range, item_in_u64};
 
-use crate::items::Item;
+pub(crate) mod wide;
+
+use crate::values::items::Item;
 use core::dec2flt::read_digits;
 
 /// The value of a digit, or 36.

@@ -2,6 +2,8 @@
 ghost use Rattle.std.specs.Prelude.{◌≡◌, ◌∷◌, [], ◌<◌, ◌≤◌, length, take, drop, MatchOption, IfSome};
 ghost use Rattle.dk_base.specs.Pieces.{is_blank as blank, outside, place_after, cuts, parts, behind, BeginsPiece, pieces};
 
+pub(crate) mod blanks;
+
 /// What cuts a text into pieces.
 #[derive(Clone, Copy)]
 pub(crate) enum Cut {

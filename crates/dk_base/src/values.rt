@@ -1,6 +1,12 @@
 // Values: views of them in an arena, and values that are kept.
 ghost use Rattle.std.specs.Prelude.{◌≡◌, ◌↔◌, IfOk, IfSome, IsNone, IsTrue, OnErr, Some, map};
 
+pub(crate) mod items;
+pub(crate) mod parsing;
+mod sequences;
+pub(crate) mod spelling;
+pub(crate) mod tuples;
+
 use crate::{Arena, Kind, List, NoMemory, Text};
 use bumpalo::collections::into_bump_slice;
 use std::alloc::Global;

@@ -3,8 +3,8 @@ use Rattle.std.specs.Prelude.{All, [], ◌∷◌, ◌++◌, List}
 use Rattle.std.proofs.Common.{subst, sym}
 use Rattle.std.proofs.lemmas.List.{map_push}
 use Rattle.std.proofs.lemmas.List.Elements.{All-push}
-use Rattle.dk_base.specs.Spelling.{IsWritten}
 use Rattle.dk_base.specs.Values.{value_of, values_of}
+use Rattle.dk_base.specs.Values.Spelling.{IsWritten}
 use Rattle.dk_base.specs.declared.values.View.{View}
 
 -- one more of them

@@ -1,8 +1,8 @@
 // Samples that are drawn.
 ghost use Rattle.std.specs.Prelude.{◌<◌, All, IfOk, IsTrue};
 ghost use Rattle.dk_base.specs.Numbers.{fits_i64};
-ghost use Rattle.dk_base.specs.Spelling.{IsWritten};
 ghost use Rattle.dk_base.specs.Values.{value_of, values_of};
+ghost use Rattle.dk_base.specs.Values.Spelling.{IsWritten};
 
 use crate::noise::Noise;
 use bumpalo::Bump;

@@ -1,7 +1,7 @@
 // What a sample costs an engine that changes none of its slots.
 ghost use Rattle.std.specs.Prelude.{All};
-ghost use Rattle.dk_base.specs.Spelling.{IsWritten};
 ghost use Rattle.dk_base.specs.Values.{values_of};
+ghost use Rattle.dk_base.specs.Values.Spelling.{IsWritten};
 
 use crate::declared::{engine_in, numbers};
 use crate::drawing::{Samples, Task, rising_values, take, take_all};

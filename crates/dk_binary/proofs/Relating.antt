@@ -1,6 +1,6 @@
 -- What the rows of two variables say of one tuple.
 use Rattle.std.specs.Prelude.{◌≡◌, Bool, true, false, if◌then◌else◌, not, List, [], ◌∷◌, refl}
-use Rattle.dk_base.specs.Tuples.{int_of, value_at}
+use Rattle.dk_base.specs.Values.Tuples.{int_of, value_at}
 use Rattle.dk_base.specs.declared.values.Value.{Value}
 use Rattle.dk_binary.specs.Rows.{compare_row, equality_number, linear_row, relates, same_by}
 use Rattle.dk_binary.specs.declared.compare.Compare.{Compare}

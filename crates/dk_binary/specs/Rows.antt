@@ -3,7 +3,7 @@ use Rattle.std.specs.Prelude.{◌≤◌, ℕ, ℤ, int_le, int_lt, nat_eq, Bool,
 use Rattle.std.specs.Ordering.{int_eq}
 use Rattle.std.specs.Str.{bytes_eq}
 use Rattle.std.proofs.Math.Bool.{beq}
-use Rattle.dk_base.specs.Tuples.{bool_of, hash_of, text_of, value_at}
+use Rattle.dk_base.specs.Values.Tuples.{bool_of, hash_of, text_of, value_at}
 use Rattle.dk_base.specs.declared.kinds.Kind.{Kind}
 use Rattle.dk_base.specs.declared.kinds.Kind.TheVariants as kind
 use Rattle.dk_base.specs.declared.values.Value.{Value}

@@ -1,7 +1,7 @@
 // The rows that state a relation of two numbers.
 ghost use Rattle.std.specs.Prelude.{◌≡◌, ◌∷◌, []};
-ghost use Rattle.dk_base.specs.Tuples.{int_of, value_at};
 ghost use Rattle.dk_base.specs.Values.{values_of};
+ghost use Rattle.dk_base.specs.Values.Tuples.{int_of, value_at};
 ghost use Rattle.dk_base.specs.declared.kinds.Kind.TheVariants as kind;
 ghost use Rattle.dk_binary.specs.Rows.{compare_row, relates};
 ghost use Rattle.dk_meanings.specs.Relations.{is_multiple, is_square};

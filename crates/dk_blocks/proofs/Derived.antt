@@ -5,8 +5,8 @@ use Rattle.std.proofs.lemmas.List.Elements.{All-head, All-nil, All-tail, filter-
 use Rattle.std.specs.List.{AllZip, enumerate_from, flat_map}
 use Rattle.std.specs.Option.{option_map_or}
 use Rattle.dk_base.specs.Shapes.{AreWithDerived, Shape, is_base_form, of_sequence, shape_of, with_derived}
-use Rattle.dk_base.specs.Spelling.{IsWritten}
 use Rattle.dk_base.specs.Values.{IsOfKind}
+use Rattle.dk_base.specs.Values.Spelling.{IsWritten}
 use Rattle.dk_base.specs.declared.kinds.VarInfo.{VarInfo}
 use Rattle.dk_base.specs.declared.values.Value.{Value}
 use Rattle.dk_derive.proofs.Deriving.{IsDerived, are_with_derived, base_form, given_derived}

@@ -4,7 +4,7 @@ use Rattle.std.proofs.lemmas.List.{take-append-drop}
 use Rattle.std.proofs.lemmas.List.Elements.{All-cons, All-head, All-nil, All-tail}
 use Rattle.std.specs.List.{cons_option, zip}
 use Rattle.std.specs.Option.{option_map_or}
-use Rattle.dk_base.specs.Spelling.{IsWritten}
+use Rattle.dk_base.specs.Values.Spelling.{IsWritten}
 use Rattle.dk_base.specs.Values.{IsOfKind}
 use Rattle.dk_base.specs.declared.kinds.Kind.{Kind}
 use Rattle.dk_base.specs.declared.kinds.Form.TheVariants as form

@@ -4,7 +4,7 @@ use Rattle.std.specs.Int.{to_le_bytes, w32}
 use Rattle.std.specs.List.{list_any}
 use Rattle.std.specs.Str.{bytes_eq}
 use Rattle.std.specs.Global.{Vec}
-use Rattle.dk_base.specs.Spelling.{spelling}
+use Rattle.dk_base.specs.Values.Spelling.{spelling}
 use Rattle.dk_base.specs.declared.kinds.VarId.{VarId}
 use Rattle.dk_base.specs.declared.values.Value.{Value}
 use Rattle.dk_samples.specs.Samples.{value_in}

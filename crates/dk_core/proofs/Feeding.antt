@@ -2,8 +2,8 @@
 use Rattle.std.proofs.Common.{◌≡◌, All, List, [], ◌∷◌, sym, subst}
 use Rattle.std.specs.List.{AllZip}
 use Rattle.dk_base.specs.Shapes.{AreWithDerived}
-use Rattle.dk_base.specs.Spelling.{IsWritten}
 use Rattle.dk_base.specs.Values.{IsOfKind}
+use Rattle.dk_base.specs.Values.Spelling.{IsWritten}
 use Rattle.dk_base.specs.declared.kinds.VarInfo.{VarInfo}
 use Rattle.dk_base.specs.declared.values.Value.{Value}
 use Rattle.dk_derive.proofs.Typed.{values_of_kinds}

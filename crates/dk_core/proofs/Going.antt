@@ -8,8 +8,8 @@ use Rattle.std.proofs.lemmas.List.{get_or-set_other, get_or-set_same, length-set
 use Rattle.std.proofs.lemmas.List.Elements.{All-cons, All-head, All-map, All-nil, All-push, All-tail, All-weaker}
 use Rattle.dk_base.specs.Reading.{Line, LineFault, ◌>>=◌}
 use Rattle.dk_base.specs.Shapes.{is_base_form}
-use Rattle.dk_base.specs.Spelling.{IsWritten}
-use Rattle.dk_base.specs.Tuples.{value_at}
+use Rattle.dk_base.specs.Values.Spelling.{IsWritten}
+use Rattle.dk_base.specs.Values.Tuples.{value_at}
 use Rattle.dk_base.specs.declared.kinds.Form.{Form}
 use Rattle.dk_base.specs.declared.kinds.Form.TheVariants as form
 use Rattle.dk_base.specs.declared.kinds.VarInfo.{VarInfo}

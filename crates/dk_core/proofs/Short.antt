@@ -6,12 +6,12 @@ use Rattle.std.specs.Str.{bytes_eq}
 use Rattle.std.proofs.lemmas.List.{length-drop, length-map, length-reverse, length-take}
 use Rattle.std.proofs.lemmas.List.Elements.{All-cons, All-nil}
 use Rattle.dk_base.proofs.Written.{read_is_written}
-use Rattle.dk_base.specs.Items.{bool_item, hash_item, int_item, is_missing_word, str_item}
 use Rattle.dk_base.specs.Pieces.{cuts, is_blank, nonempty, outside, parts, pieces, place_after}
 use Rattle.dk_base.specs.Reading.{Line}
-use Rattle.dk_base.specs.Sequences.{all_of, bracketed, inside, is_bad, is_missing, present, sequence}
-use Rattle.dk_base.specs.Spelling.{bool_text, hash_text, sequence_text, spelling}
 use Rattle.dk_base.specs.Values.{IsOfKind, value_of_text, valued}
+use Rattle.dk_base.specs.Values.Items.{bool_item, hash_item, int_item, is_missing_word, str_item}
+use Rattle.dk_base.specs.Values.Sequences.{all_of, bracketed, inside, is_bad, is_missing, present, sequence}
+use Rattle.dk_base.specs.Values.Spelling.{bool_text, hash_text, sequence_text, spelling}
 use Rattle.dk_base.specs.Words.{rest_of_line, trim_blanks, without_front, word_len}
 use Rattle.dk_base.specs.declared.kinds.Kind.{Kind}
 use Rattle.dk_base.specs.declared.kinds.Kind.TheVariants as kind

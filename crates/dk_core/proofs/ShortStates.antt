@@ -4,7 +4,7 @@ use Rattle.std.specs.Fmt.{decimal}
 use Rattle.std.specs.List.{enumerate_from, flat_map, range_with_len}
 use Rattle.std.proofs.lemmas.List.Elements.{All-cons, All-nil, All-weaker}
 use Rattle.dk_base.specs.Names.{escaped}
-use Rattle.dk_base.specs.Spelling.{spelling}
+use Rattle.dk_base.specs.Values.Spelling.{spelling}
 use Rattle.dk_base.specs.declared.values.Value.{Value}
 use Rattle.dk_blocks.specs.History.{History}
 use Rattle.dk_core.proofs.Short.{IsShort, each_within, spelling_few}

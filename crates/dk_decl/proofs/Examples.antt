@@ -1,10 +1,10 @@
 -- Small examples, computed from the definitions.
 use Rattle.std.proofs.Common.{◌≡◌, ◌∷◌, [], ℕ, suc, pos, negsuc, true, false, List, Some, None, Ok, Err, codes, refl}
-use Rattle.dk_base.specs.Items.{bool_item, int_item}
 use Rattle.dk_base.specs.Names.{unescaped}
 use Rattle.dk_base.specs.Numbers.{integer_of, natural_of, whole_of}
 use Rattle.dk_base.specs.Pieces.{pieces}
 use Rattle.dk_base.specs.Reading.{Line}
+use Rattle.dk_base.specs.Values.Items.{bool_item, int_item}
 use Rattle.dk_base.specs.declared.kinds.Kind.TheVariants as kind
 use Rattle.dk_base.specs.declared.values.Value.TheVariants as value
 use Rattle.dk_base.specs.declared.why.Why.TheVariants.{BadHeader, BadPoint, BadVariable}

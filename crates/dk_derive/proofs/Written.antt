@@ -2,10 +2,10 @@
 use Rattle.std.proofs.Common.{◌<◌, ◌^◌, ℕ, zero, suc, Bool, true, false, nat_le, IsTrue, All, List, [], ◌∷◌, length, take, drop, Option, Some, None, option_and_then, slice_get, if◌then◌else◌}
 use Rattle.std.proofs.lemmas.List.Elements.{All-drop, All-head, All-tail, All-take}
 use Rattle.std.specs.Option.{option_map_or}
-use Rattle.dk_base.specs.Items.{is_text}
 use Rattle.dk_base.specs.Numbers.{fits_i64}
-use Rattle.dk_base.specs.Spelling.{IsWritten}
-use Rattle.dk_base.specs.Tuples.{value_at}
+use Rattle.dk_base.specs.Values.Items.{is_text}
+use Rattle.dk_base.specs.Values.Spelling.{IsWritten}
+use Rattle.dk_base.specs.Values.Tuples.{value_at}
 use Rattle.dk_base.specs.declared.values.Value.{Value}
 use Rattle.dk_base.specs.declared.values.Value.TheVariants as value
 use Rattle.dk_derive.specs.Values.{back, element, front}

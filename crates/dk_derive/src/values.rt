@@ -2,9 +2,9 @@
 ghost use Rattle.std.specs.Prelude.{◌≡◌, ◌-◌, All, IfOk, length, option_and_then, option_map, slice_get, true};
 ghost use Rattle.std.specs.List.{list_all};
 ghost use Rattle.dk_base.specs.Shapes.{is_base_form};
-ghost use Rattle.dk_base.specs.Spelling.{IsWritten};
-ghost use Rattle.dk_base.specs.Tuples.{value_at};
 ghost use Rattle.dk_base.specs.Values.{value_of, values_of};
+ghost use Rattle.dk_base.specs.Values.Spelling.{IsWritten};
+ghost use Rattle.dk_base.specs.Values.Tuples.{value_at};
 ghost use Rattle.dk_derive.specs.Values.{at, back, back_of, derived_value, element, front, front_of, next_place, number_of_elements, place, size, value_by_form, values_by_form};
 
 use crate::forms::is_base_form;

@@ -8,7 +8,7 @@ use Rattle.std.specs.declared.cmp.Ordering.TheVariants.{Equal}
 use Rattle.std.proofs.Common.{ap, arith, inl, inr, subst, sym, ◌∙◌}
 use Rattle.std.proofs.lemmas.Bool.{eqb-true, false≢true, or_cases, or_parts, true≢false}
 use Rattle.std.proofs.lemmas.Int.{clamps, ints as int_rules}
-use Rattle.dk_base.specs.Tuples.{int_of, ints_of, value_at}
+use Rattle.dk_base.specs.Values.Tuples.{int_of, ints_of, value_at}
 use Rattle.dk_base.specs.declared.kinds.VarId.{VarId}
 use Rattle.dk_base.specs.declared.values.Value.{Value}
 use Rattle.dk_forms.specs.Distinct.{by_order, distinct, put}

@@ -10,7 +10,7 @@ use Rattle.std.proofs.lemmas.Bool.Decides.{Decides-int_eq}
 use Rattle.std.proofs.lemmas.Int.{ints}
 use Rattle.dk_arith.proofs.Ring.{rep, rep-mul, rep-sub, same_rep}
 use Rattle.dk_arith.specs.Vectors.{minus}
-use Rattle.dk_base.specs.Tuples.{int_of}
+use Rattle.dk_base.specs.Values.Tuples.{int_of}
 use Rattle.dk_base.specs.declared.kinds.VarId.{VarId}
 use Rattle.dk_base.specs.declared.values.Value.{Value}
 use Rattle.dk_base.specs.declared.values.Value.TheVariants as value

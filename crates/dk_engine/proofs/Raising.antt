@@ -1,7 +1,7 @@
 -- A greatest value with a number more.
 use Rattle.std.specs.Prelude.{◌≡◌, ℤ, ◌∷◌, [], List, refl}
 use Rattle.std.proofs.Common.{◌∙◌, ap, sym}
-use Rattle.dk_base.specs.Tuples.{int_of, value_at}
+use Rattle.dk_base.specs.Values.Tuples.{int_of, value_at}
 use Rattle.dk_base.specs.declared.kinds.VarId.{VarId}
 use Rattle.dk_base.specs.declared.values.Value.{Value}
 use Rattle.dk_base.specs.declared.values.Value.TheVariants as value

@@ -4,7 +4,7 @@ use Rattle.std.proofs.Common.{◌∙◌, ap, arith, get_or, sym, inl, inr, subst
 use Rattle.std.proofs.lemmas.Bool.{cases_Bool, cases_lt}
 use Rattle.std.proofs.lemmas.List.{get_or_past}
 use Rattle.std.proofs.lemmas.List.Elements.{All-cons, All-contains, All-head, All-map, All-tail, Contains-get_or}
-use Rattle.dk_base.specs.Spelling.{IsWritten}
+use Rattle.dk_base.specs.Values.Spelling.{IsWritten}
 use Rattle.dk_base.specs.declared.kinds.VarId.{VarId}
 use Rattle.dk_base.specs.declared.kinds.VarInfo.{VarInfo}
 use Rattle.dk_base.specs.declared.values.Value.{Value}

@@ -27,7 +27,7 @@ use Rattle.dk_template.specs.declared.grammar.Grammar.{Grammar}
 use Rattle.dk_template.specs.declared.grammar.RowId.{RowId}
 use Rattle.dk_engine.specs.Reading.Parts.{all_known}
 use Rattle.dk_engine.specs.Reading.{agree_read, count_read, state_read}
-use Rattle.dk_base.specs.SameValues.{same_value}
+use Rattle.dk_base.specs.Values.SameValues.{same_value}
 use Rattle.dk_engine.specs.declared.kept.Kept.{Kept}
 use Rattle.dk_engine.specs.declared.feed.now.Now.{Now}
 use Rattle.dk_engine.specs.declared.slots.slot.Slot.{Slot}

@@ -2,8 +2,8 @@
 use Rattle.std.specs.Prelude.{◌≡◌, ◌<◌, ◌≤◌, ℕ, ℤ, Bool, IsTrue, All, List, length, refl}
 use Rattle.std.specs.List.{list_all}
 use Rattle.std.proofs.lemmas.Bool.{false≢true}
-use Rattle.dk_base.specs.Items.{is_text}
 use Rattle.dk_base.specs.Numbers.{fits_i64}
+use Rattle.dk_base.specs.Values.Items.{is_text}
 use Rattle.dk_forms.specs.declared.states.State.{State}
 use Rattle.dk_forms.specs.declared.states.State.TheVariants as state
 use Rattle.dk_template.specs.Fitting.{fits}

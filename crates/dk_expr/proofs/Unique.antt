@@ -6,7 +6,7 @@ use Rattle.std.proofs.Common.{◌∙◌, ap, arith, get_or, inl, inr, subst, sym
 use Rattle.std.proofs.lemmas.Bool.{and_parts, cases_lt, eqb-true, false≢true}
 use Rattle.std.proofs.lemmas.List.{length-map}
 use Rattle.std.proofs.lemmas.List.Elements.{All-cons, All-nil, All-weaker}
-use Rattle.dk_base.specs.Items.{is_text}
+use Rattle.dk_base.specs.Values.Items.{is_text}
 use Rattle.dk_base.specs.Numbers.{fits_i64}
 use Rattle.dk_base.specs.declared.kinds.VarId.{VarId}
 use Rattle.dk_base.specs.declared.kinds.VarInfo.{VarInfo}

@@ -11,7 +11,7 @@ use Rattle.std.proofs.lemmas.List.{append_cancel_left}
 use Rattle.std.proofs.lemmas.List.Elements.{All-head, All-tail}
 use Rattle.std.proofs.lemmas.Slice.Eq.{bytes_eq-Decides}
 use Rattle.std.proofs.lemmas.Str.Parse.{digit_from_value}
-use Rattle.dk_base.specs.Items.{closes_quote, is_quoted, is_text}
+use Rattle.dk_base.specs.Values.Items.{closes_quote, is_quoted, is_text}
 use Rattle.dk_base.specs.Pieces.{is_empty}
 use Rattle.dk_print.specs.Parts.{values_text}
 use Rattle.dk_expr.specs.Readable.{begins_behind_number, ends_number}

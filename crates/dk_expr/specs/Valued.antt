@@ -1,7 +1,7 @@
 -- The texts of values, and where they end.
 use Rattle.std.specs.Prelude.{◌≡◌, ◌+◌, ◌==◌, ◌&&◌, ◌||◌, ℕ, Bool, true, false, not, List, [], ◌∷◌, if◌then◌else◌}
 use Rattle.std.specs.List.{list_all, position_or_len}
-use Rattle.dk_base.specs.Items.{closes_quote}
+use Rattle.dk_base.specs.Values.Items.{closes_quote}
 use Rattle.dk_expr.specs.Readable.{ends_number}
 
 -- how many bytes there are up to the first quote (34) that no backslash (92) takes with it, the quote included

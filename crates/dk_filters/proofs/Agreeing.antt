@@ -9,7 +9,7 @@ use Rattle.dk_base.specs.declared.kinds.Kind.{Kind}
 use Rattle.dk_base.specs.declared.kinds.Kind.TheVariants as kind
 use Rattle.dk_base.specs.declared.values.Value.{Value}
 use Rattle.dk_base.proofs.ValueTests.{same_value-decides}
-use Rattle.dk_base.specs.SameValues.{same_value}
+use Rattle.dk_base.specs.Values.SameValues.{same_value}
 use Rattle.dk_samples.specs.Samples.{value_in}
 use Rattle.dk_template.specs.Admitted.{same_kind}
 use Rattle.dk_filters.specs.Facts.{info_at}

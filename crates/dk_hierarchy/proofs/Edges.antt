@@ -9,7 +9,7 @@ use Rattle.dk_base.specs.declared.values.Value.TheVariants as value
 use Rattle.dk_instances.specs.Fits.{fit, is_whole, tuple_in, tuples_of}
 use Rattle.dk_instances.proofs.Fitting.{count_of_tuples, fit_of_none}
 use Rattle.dk_forms.specs.declared.states.State.TheVariants.{Empty}
-use Rattle.dk_base.specs.SameValues.{same_value}
+use Rattle.dk_base.specs.Values.SameValues.{same_value}
 use Rattle.dk_presence.specs.Patterns.{capped, count_of}
 use Rattle.dk_meanings.specs.Meanings.{state_of}
 use Rattle.dk_samples.specs.Samples.{is_present, value_in}

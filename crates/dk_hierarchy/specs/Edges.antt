@@ -8,7 +8,7 @@ use Rattle.dk_base.specs.declared.values.Value.{Value}
 use Rattle.dk_derive.specs.Laws.{IsAlike}
 use Rattle.dk_instances.specs.Fits.{fit}
 use Rattle.dk_forms.specs.declared.states.State.TheVariants.{Empty}
-use Rattle.dk_base.specs.SameValues.{same_value}
+use Rattle.dk_base.specs.Values.SameValues.{same_value}
 use Rattle.dk_presence.specs.Patterns.{count_of}
 use Rattle.dk_samples.specs.Samples.{is_present, value_in}
 use Rattle.dk_template.specs.Templates.{IsRow}

@@ -2,7 +2,7 @@
 use Rattle.std.specs.Prelude.{ℕ, List, [], ◌++◌, codes, flat_map, length, slice_index_or, if◌then◌else◌}
 use Rattle.std.specs.List.{range_with_len}
 use Rattle.dk_base.specs.Pieces.{is_empty}
-use Rattle.dk_base.specs.Spelling.{bool_text}
+use Rattle.dk_base.specs.Values.Spelling.{bool_text}
 use Rattle.dk_base.specs.declared.kinds.VarInfo.{VarInfo}
 use Rattle.dk_base.specs.declared.values.Value.{Value}
 use Rattle.dk_filters.specs.Facts.{info_at}

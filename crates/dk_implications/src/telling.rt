@@ -1,7 +1,7 @@
 // What halves tell that all samples don't.
 ghost use Rattle.std.specs.Prelude.{◌≡◌, ◌<◌, ◌++◌, All, IfOk, List, OnOk, codes, flat_map, length, map};
 ghost use Rattle.std.specs.List.{list_any};
-ghost use Rattle.dk_base.specs.Spelling.{bool_text};
+ghost use Rattle.dk_base.specs.Values.Spelling.{bool_text};
 ghost use Rattle.dk_base.specs.declared.values.Value.{Value as SampleValue};
 ghost use Rattle.dk_engine.specs.Exact.{AreOfPoint};
 ghost use Rattle.dk_engine.specs.Reading.{agree_read};

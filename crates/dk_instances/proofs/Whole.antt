@@ -6,9 +6,9 @@ use Rattle.std.proofs.lemmas.Bool.{and_parts, cases_lt, eqb-true, false≢true}
 use Rattle.std.proofs.lemmas.List.{get_or_past, length-map}
 use Rattle.std.proofs.lemmas.List.Elements.{All-filter, All-map, filter_passes}
 use Rattle.dk_base.specs.Shapes.{is_base_form}
-use Rattle.dk_base.specs.Spelling.{IsWritten}
-use Rattle.dk_base.specs.Tuples.{value_at}
 use Rattle.dk_base.specs.Values.{IsOfKind, kind_of}
+use Rattle.dk_base.specs.Values.Spelling.{IsWritten}
+use Rattle.dk_base.specs.Values.Tuples.{value_at}
 use Rattle.dk_base.specs.declared.kinds.Kind.{Kind}
 use Rattle.dk_base.specs.declared.kinds.Kind.TheVariants as kind
 use Rattle.dk_base.specs.declared.kinds.VarId.{VarId}

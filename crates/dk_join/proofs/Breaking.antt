@@ -6,9 +6,9 @@ use Rattle.std.proofs.lemmas.Bool.{and_parts, false≢true, not-true}
 use Rattle.std.proofs.lemmas.List.Elements.{All-cons, All-head, All-nil, All-tail}
 use Rattle.std.proofs.lemmas.List.FromFn.{get_or-map-range_with_len}
 use Rattle.dk_base.specs.Numbers.{fits_i64}
-use Rattle.dk_base.specs.Spelling.{IsWritten}
-use Rattle.dk_base.specs.Tuples.{value_at}
 use Rattle.dk_base.specs.Values.{kind_of as kind_in}
+use Rattle.dk_base.specs.Values.Spelling.{IsWritten}
+use Rattle.dk_base.specs.Values.Tuples.{value_at}
 use Rattle.dk_base.specs.declared.kinds.Kind.{Kind}
 use Rattle.dk_base.specs.declared.kinds.Kind.TheVariants as kind
 use Rattle.dk_base.specs.declared.kinds.VarId.{VarId}

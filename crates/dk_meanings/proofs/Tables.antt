@@ -2,8 +2,8 @@
 use Rattle.std.specs.Prelude.{◌≡◌, ◌<◌, ℕ, zero, suc, List, [], ◌∷◌, All, length, slice_index_or, refl}
 use Rattle.std.proofs.Common.{arith}
 use Rattle.std.proofs.lemmas.List.Elements.{All-cons, All-nil}
-use Rattle.dk_base.specs.Spelling.{IsWritten}
-use Rattle.dk_base.specs.Tuples.{ints_of, text_of, texts_of, value_at}
+use Rattle.dk_base.specs.Values.Spelling.{IsWritten}
+use Rattle.dk_base.specs.Values.Tuples.{ints_of, text_of, texts_of, value_at}
 use Rattle.dk_base.specs.declared.kinds.Kind.TheVariants as kind
 use Rattle.dk_base.specs.declared.values.Value.{Value}
 use Rattle.dk_base.specs.declared.values.Value.TheVariants as value

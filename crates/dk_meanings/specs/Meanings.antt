@@ -4,7 +4,7 @@ use Rattle.std.specs.Ordering.{int_eq}
 use Rattle.std.specs.Str.{bytes_eq}
 use Rattle.std.specs.List.{list_all}
 use Rattle.std.proofs.Math.Bool.{beq}
-use Rattle.dk_base.specs.Tuples.{bool_of, bools_of, hash_of, hashes_of, int_of, ints_of, text_of, texts_of, value_at}
+use Rattle.dk_base.specs.Values.Tuples.{bool_of, bools_of, hash_of, hashes_of, int_of, ints_of, text_of, texts_of, value_at}
 use Rattle.dk_base.specs.declared.values.Value.{Value}
 use Rattle.dk_forms.specs.Offset.{differences}
 use Rattle.dk_forms.specs.declared.states.State.{State}

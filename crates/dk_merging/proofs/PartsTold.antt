@@ -8,9 +8,9 @@ use Rattle.std.proofs.lemmas.Fmt.{decimal_is_IsNumeral_wide}
 use Rattle.std.proofs.lemmas.List.{map-id}
 use Rattle.std.proofs.lemmas.Str.Parse.{digit_from_value}
 use Rattle.dk_base.proofs.ReadBack.{spelled_back}
-use Rattle.dk_base.specs.Items.{is_text}
+use Rattle.dk_base.specs.Values.Items.{is_text}
 use Rattle.dk_base.specs.Numbers.{fits_i64}
-use Rattle.dk_base.specs.Spelling.{IsWritten, bool_text, hash_text, spelling}
+use Rattle.dk_base.specs.Values.Spelling.{IsWritten, bool_text, hash_text, spelling}
 use Rattle.dk_base.specs.Values.{IsOfKind, value_of_text}
 use Rattle.dk_base.specs.declared.kinds.Kind.{Kind}
 use Rattle.dk_base.specs.declared.kinds.Kind.TheVariants as kind

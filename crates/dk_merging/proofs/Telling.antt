@@ -13,7 +13,7 @@ use Rattle.dk_base.proofs.ReadBack.{spelled_back}
 use Rattle.dk_base.proofs.Spellings.{unescaped_of_escaped}
 use Rattle.dk_base.specs.Names.{escaped, unescaped}
 use Rattle.dk_base.specs.Numbers.{fits_i64}
-use Rattle.dk_base.specs.Spelling.{spelling}
+use Rattle.dk_base.specs.Values.Spelling.{spelling}
 use Rattle.dk_base.specs.Values.{value_of_text}
 use Rattle.dk_base.specs.declared.kinds.Kind.{Kind}
 use Rattle.dk_base.specs.declared.kinds.Kind.TheVariants as kind

@@ -1,7 +1,7 @@
 // Declarations that are the same.
 ghost use Rattle.std.specs.Prelude.{◌≡◌};
 ghost use Rattle.std.specs.Cmp.Lexicographic.{pointwise};
-ghost use Rattle.dk_base.specs.SameValues.{same_value};
+ghost use Rattle.dk_base.specs.Values.SameValues.{same_value};
 ghost use Rattle.dk_points.specs.Links.{same_edge};
 ghost use Rattle.dk_points.specs.Sameness.{same_compar, same_decl, same_option, same_parent_var, same_var};
 ghost use Rattle.dk_points.specs.Vars.{same_kind};

@@ -8,7 +8,7 @@ use Rattle.std.proofs.lemmas.Bool.{and_parts, eqb-true, false≢true, or_cases}
 use Rattle.std.proofs.lemmas.List.{append-nil}
 use Rattle.std.proofs.lemmas.List.Elements.{All-head}
 use Rattle.std.proofs.lemmas.Slice.Eq.{bytes_eq-Decides}
-use Rattle.dk_base.specs.Items.{closes_quote, is_quoted, is_text}
+use Rattle.dk_base.specs.Values.Items.{closes_quote, is_quoted, is_text}
 use Rattle.dk_print.specs.Laws.{TellsStrings}
 use Rattle.dk_print.specs.Names.{is_plain_name}
 use Rattle.dk_print.specs.Parts.{Part, word, named, bound, values, null_or, remainder, modulus, lead, term, constant, step, bound_in, code_in, constant_term_in, factor_at, known_text, modulus_in, name_at, offset_in, part_text, remainder_in, sign_text, step_text, text_by, times_text}

@@ -1,6 +1,6 @@
 -- What the table of texts comes to.
 use Rattle.std.specs.Prelude.{◌≡◌, ◌<◌, All, IsTrue, List, length}
-use Rattle.dk_base.specs.Items.{is_text}
+use Rattle.dk_base.specs.Values.Items.{is_text}
 use Rattle.dk_base.specs.declared.kinds.VarId.{VarId}
 use Rattle.dk_base.specs.declared.kinds.VarInfo.{VarInfo}
 use Rattle.dk_filters.specs.Facts.{info_at}

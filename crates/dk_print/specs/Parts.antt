@@ -4,7 +4,7 @@ use Rattle.std.specs.Prelude.{◌==◌, ℕ, ℤ, pos, int_lt, unsigned_abs, Lis
 use Rattle.std.specs.Fmt.{decimal, signed_decimal}
 use Rattle.std.specs.List.{join_by}
 use Rattle.std.specs.Ordering.{int_eq}
-use Rattle.dk_base.specs.Spelling.{bool_text}
+use Rattle.dk_base.specs.Values.Spelling.{bool_text}
 use Rattle.dk_forms.specs.declared.states.State.{State}
 use Rattle.dk_forms.specs.declared.states.State.TheVariants as state
 

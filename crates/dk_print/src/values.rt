@@ -1,7 +1,7 @@
 // The values that a state knows.
 ghost use Rattle.std.specs.Prelude.{◌≡◌, ◌++◌, ℕ, List, OnOk, codes, flat_map};
 ghost use Rattle.std.specs.Fmt.{signed_decimal};
-ghost use Rattle.dk_base.specs.Spelling.{bool_text};
+ghost use Rattle.dk_base.specs.Values.Spelling.{bool_text};
 ghost use Rattle.dk_print.specs.Parts.{known_text, values_text};
 
 use dk_base::{NoMemory, Text};

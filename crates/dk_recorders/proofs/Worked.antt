@@ -2,7 +2,7 @@
 use Rattle.std.proofs.Common.{◌≡◌, ◌∷◌, [], ◌++◌, ℕ, pos, Bool, true, false, All, List, None, Option, Some, codes, option_map, refl}
 use Rattle.std.proofs.lemmas.List.Elements.{All-cons, All-nil}
 use Rattle.std.specs.Result.{result_ok}
-use Rattle.dk_base.specs.Items.{int_item}
+use Rattle.dk_base.specs.Values.Items.{int_item}
 use Rattle.dk_base.specs.Names.{unescaped}
 use Rattle.dk_base.specs.Numbers.{integer_of, whole_of}
 use Rattle.dk_base.specs.Reading.{Line}

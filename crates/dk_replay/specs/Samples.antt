@@ -1,8 +1,8 @@
 -- Samples that were fed, and where variables agree in them.
 use Rattle.std.specs.Prelude.{◌&&◌, Bool, List, map}
 use Rattle.std.specs.List.{list_all}
-use Rattle.dk_base.specs.SameValues.{same_value}
 use Rattle.dk_base.specs.Values.{values_of}
+use Rattle.dk_base.specs.Values.SameValues.{same_value}
 use Rattle.dk_base.specs.declared.kinds.VarId.{VarId}
 use Rattle.dk_base.specs.declared.kinds.VarInfo.{VarInfo}
 use Rattle.dk_base.specs.declared.values.Value.{Value}

@@ -1,7 +1,7 @@
 // Feeding samples to an engine, and comparing it with the definitions after each.
 ghost use Rattle.std.specs.Prelude.{◌≡◌, ◌<◌, ◌^◌, All, IfOk, OnOk, length};
-ghost use Rattle.dk_base.specs.Spelling.{IsWritten};
 ghost use Rattle.dk_base.specs.Values.{values_of};
+ghost use Rattle.dk_base.specs.Values.Spelling.{IsWritten};
 ghost use Rattle.dk_engine.specs.Exact.{AreOfPoint};
 ghost use Rattle.dk_instances.specs.Laws.{IsSample};
 ghost use Rattle.dk_replay.specs.Samples.{samples_of};

@@ -1,7 +1,7 @@
 // Random samples.
 ghost use Rattle.std.specs.Prelude.{All, IfOk, IfSome};
-ghost use Rattle.dk_base.specs.Spelling.{IsWritten};
 ghost use Rattle.dk_base.specs.Values.{value_of, values_of};
+ghost use Rattle.dk_base.specs.Values.Spelling.{IsWritten};
 
 use crate::habits::{Draw, Habits};
 use crate::noise::Noise;

@@ -14,7 +14,7 @@ use Rattle.dk_instances.specs.Fits.{fit}
 use Rattle.dk_instances.specs.Instances.{all_vars, rows_of, tuples_over}
 use Rattle.dk_hierarchy.specs.Samples.{OwnSamples, all_vars_of, own_samples_of}
 use Rattle.dk_points.specs.Table.{Point}
-use Rattle.dk_base.specs.SameValues.{same_value}
+use Rattle.dk_base.specs.Values.SameValues.{same_value}
 use Rattle.dk_print.specs.Sections.{stats_line}
 use Rattle.dk_presence.specs.Patterns.{capped, patterns_of, same_vars}
 use Rattle.dk_samples.specs.Samples.{value_in}

@@ -1,6 +1,6 @@
 -- Samples: a sample is the list of the values by variable.
 use Rattle.std.specs.Prelude.{◌≡◌, Bool, true, false, All, List}
-use Rattle.dk_base.specs.Tuples.{value_at}
+use Rattle.dk_base.specs.Values.Tuples.{value_at}
 use Rattle.dk_base.specs.declared.kinds.VarId.{VarId}
 use Rattle.dk_base.specs.declared.values.Value.{Value}
 use Rattle.dk_base.specs.declared.values.Value.TheVariants as value

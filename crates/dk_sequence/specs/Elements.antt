@@ -1,7 +1,7 @@
 -- The numbers of the rows over the elements of a sequence, and what these rows say of the elements.
 use Rattle.std.specs.Prelude.{◌≤◌, ◌⊎◌, ℕ, ℤ, Bool, List, IsTrue, refl}
 use Rattle.std.specs.List.{list_all}
-use Rattle.dk_base.specs.Tuples.{bools_of, hashes_of, ints_of, texts_of}
+use Rattle.dk_base.specs.Values.Tuples.{bools_of, hashes_of, ints_of, texts_of}
 use Rattle.dk_base.specs.declared.kinds.Kind.{Kind}
 use Rattle.dk_base.specs.declared.kinds.Kind.TheVariants as kind
 use Rattle.dk_base.specs.declared.values.Value.{Value}

@@ -3,7 +3,7 @@ use Rattle.std.specs.Prelude.{◌≡◌, ◌≤◌, ◌⊎◌, ℤ, int_le, int_
 use Rattle.std.specs.Ordering.{int_eq}
 use Rattle.std.specs.Str.{bytes_eq}
 use Rattle.std.proofs.Math.Bool.{beq}
-use Rattle.dk_base.specs.Tuples.{bools_of, hash_of, hashes_of, int_of, ints_of, text_of, texts_of, value_at}
+use Rattle.dk_base.specs.Values.Tuples.{bools_of, hash_of, hashes_of, int_of, ints_of, text_of, texts_of, value_at}
 use Rattle.dk_base.specs.declared.kinds.Kind.{Kind}
 use Rattle.dk_base.specs.declared.kinds.Kind.TheVariants as kind
 use Rattle.dk_base.specs.declared.values.Value.{Value}

@@ -11,11 +11,11 @@ use Rattle.std.proofs.lemmas.Fmt.{digits_is_IsNumeral}
 use Rattle.std.proofs.lemmas.List.{map-id}
 use Rattle.std.proofs.lemmas.List.Elements.{All-head, All-tail}
 use Rattle.std.proofs.lemmas.Slice.Eq.{bytes_eq-Decides}
-use Rattle.dk_base.specs.Items.{closes_quote, is_quoted, is_text}
+use Rattle.dk_base.specs.Values.Items.{closes_quote, is_quoted, is_text}
 use Rattle.dk_base.specs.Names.{escaped, escaped_byte}
 use Rattle.dk_base.specs.Numbers.{fits_i64}
 use Rattle.dk_base.specs.Pieces.{is_empty}
-use Rattle.dk_base.specs.Spelling.{IsWritten, bool_text, hash_text, sequence_text, spelling}
+use Rattle.dk_base.specs.Values.Spelling.{IsWritten, bool_text, hash_text, sequence_text, spelling}
 use Rattle.dk_base.specs.declared.values.Value.{Value}
 use Rattle.dk_base.specs.declared.values.Value.TheVariants as value
 use Rattle.dk_state.specs.Reading.{HasNone, ends_field, ends_line}

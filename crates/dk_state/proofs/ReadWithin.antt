@@ -1,7 +1,7 @@
 -- What a text writes is within its type.
 use Rattle.std.specs.Prelude.{◌≡◌, ℕ, List, Option, Some, None, unwrap_or}
 use Rattle.std.proofs.Common.{sym}
-use Rattle.dk_base.specs.Spelling.{IsWritten}
+use Rattle.dk_base.specs.Values.Spelling.{IsWritten}
 use Rattle.dk_base.specs.Values.{IsOfKind, value_of_text}
 use Rattle.dk_base.specs.declared.kinds.Kind.{Kind}
 use Rattle.dk_base.specs.declared.values.Value.{Value}

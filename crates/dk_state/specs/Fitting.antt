@@ -1,10 +1,10 @@
 -- What can be read as it is saved: numbers within their types, names without an LF, values that texts write.
 use Rattle.std.specs.Prelude.{◌≡◌, ◌<◌, ◌≤◌, ◌^◌, ℕ, Bool, true, false, All, IsTrue, List, codes, length, nat_eq, unsigned_abs, Option, Some, None}
 use Rattle.std.specs.List.{starts_with}
-use Rattle.dk_base.specs.Items.{is_text}
 use Rattle.dk_base.specs.Numbers.{fits_i64}
-use Rattle.dk_base.specs.Spelling.{IsWritten}
 use Rattle.dk_base.specs.Values.{IsOfKind}
+use Rattle.dk_base.specs.Values.Items.{is_text}
+use Rattle.dk_base.specs.Values.Spelling.{IsWritten}
 use Rattle.dk_base.specs.declared.kinds.Kind.{Kind}
 use Rattle.dk_base.specs.declared.kinds.VarId.{VarId}
 use Rattle.dk_base.specs.declared.kinds.VarInfo.{VarInfo}

@@ -2,7 +2,7 @@
 use Rattle.std.specs.Prelude.{ℕ, Bool, List, [], ◌∷◌, ◌++◌, flat_map, map, if◌then◌else◌}
 use Rattle.std.specs.Fmt.{decimal}
 use Rattle.dk_base.specs.Pieces.{is_empty}
-use Rattle.dk_base.specs.Spelling.{spelling}
+use Rattle.dk_base.specs.Values.Spelling.{spelling}
 use Rattle.dk_base.specs.declared.kinds.VarId.{VarId}
 use Rattle.dk_engine.specs.declared.saved.parts.Parts.{Parts}
 use Rattle.dk_engine.specs.declared.slots.slot.Slot.{Slot}

@@ -1,7 +1,7 @@
 -- States, as they are saved.
 use Rattle.std.specs.Prelude.{ℕ, List, [], ◌∷◌, codes, map}
 use Rattle.std.specs.Fmt.{decimal, signed_decimal}
-use Rattle.dk_base.specs.Spelling.{bool_text, hash_text}
+use Rattle.dk_base.specs.Values.Spelling.{bool_text, hash_text}
 use Rattle.dk_forms.specs.declared.states.State.{State}
 use Rattle.dk_forms.specs.declared.states.State.TheVariants as state
 

@@ -1,6 +1,6 @@
 // Declarations, as they are saved.
 ghost use Rattle.std.specs.Prelude.{◌≡◌, ◌++◌, OnOk, codes, flat_map, length, unwrap_or};
-ghost use Rattle.dk_base.specs.Spelling.{spelling};
+ghost use Rattle.dk_base.specs.Values.Spelling.{spelling};
 ghost use Rattle.dk_state.specs.Declarations.{constant_line, decls_of, edge_line, mapped_line, point_lines, var_decl_line, var_lines};
 ghost use Rattle.dk_state.specs.Lines.{behind_blank};
 

@@ -1,7 +1,7 @@
 // Fields of a line, each behind a blank, and the line's end.
 ghost use Rattle.std.specs.Prelude.{◌≡◌, ◌++◌, OnOk, codes};
 ghost use Rattle.dk_base.specs.Names.{escaped};
-ghost use Rattle.dk_base.specs.Spelling.{spelling};
+ghost use Rattle.dk_base.specs.Values.Spelling.{spelling};
 ghost use Rattle.dk_state.specs.Lines.{behind_blank, fields_text, var_fields};
 
 use dk_base::{Arena, NoMemory, Text, Value, VarId, spell};

@@ -4,8 +4,8 @@ ghost use Rattle.std.specs.List.{position_or_len, starts_with};
 ghost use Rattle.std.specs.Fmt.{decimal, signed_decimal};
 ghost use Rattle.dk_base.specs.Names.{escaped};
 ghost use Rattle.dk_base.specs.Numbers.{fits_i64};
-ghost use Rattle.dk_base.specs.Spelling.{IsWritten, spelling};
 ghost use Rattle.dk_base.specs.Values.{IsOfKind, value_of_text};
+ghost use Rattle.dk_base.specs.Values.Spelling.{IsWritten, spelling};
 ghost use Rattle.dk_state.specs.Lines.{behind_blank};
 ghost use Rattle.dk_state.specs.Reading.{BeginsWith, HasNone, begins_number, ends_field, ends_line};
 

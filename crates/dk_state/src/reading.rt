@@ -2,7 +2,7 @@
 ghost use Rattle.std.specs.Prelude.{◌≡◌, ◌++◌, ◌-◌, ◌<◌, ◌≤◌, ◌^◌, ◌∷◌, ℕ, true, false, All, Bool, IfOk, List, Option, codes, length, nat_eq, refl, unwrap_or};
 ghost use Rattle.std.specs.List.{starts_with};
 ghost use Rattle.dk_base.specs.declared.kinds.Kind.{Kind as Kinds};
-ghost use Rattle.dk_base.specs.Spelling.{spelling};
+ghost use Rattle.dk_base.specs.Values.Spelling.{spelling};
 ghost use Rattle.dk_base.specs.declared.values.Value.{Value as Values};
 ghost use Rattle.dk_state.specs.Declarations.{constant_decl_text, edge_line, mapped_line, point_lines, var_lines};
 ghost use Rattle.dk_write.specs.Declarations.{rep_text};

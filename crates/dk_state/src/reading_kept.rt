@@ -2,8 +2,8 @@
 ghost use Rattle.std.specs.Prelude.{◌≡◌, ◌++◌, ◌-◌, ◌<◌, ◌≤◌, ◌^◌, ◌∷◌, ◌==◌, ℕ, false, All, Bool, IfOk, List, None, Some, codes, length, map, nat_eq, refl};
 ghost use Rattle.std.specs.Fmt.{decimal};
 ghost use Rattle.std.specs.List.{starts_with};
-ghost use Rattle.dk_base.specs.Spelling.{IsWritten, spelling};
 ghost use Rattle.dk_base.specs.Values.{IsOfKind};
+ghost use Rattle.dk_base.specs.Values.Spelling.{IsWritten, spelling};
 ghost use Rattle.dk_base.specs.declared.values.Value.{Value as Values};
 ghost use Rattle.dk_classes.specs.Classes.{kind_at, var_kinds};
 ghost use Rattle.dk_engine.specs.declared.saved.parts.Parts.{Parts as AllParts};

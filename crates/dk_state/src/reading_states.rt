@@ -1,8 +1,8 @@
 // States, as they are read.
 ghost use Rattle.std.specs.Prelude.{◌≡◌, ◌++◌, ◌-◌, ◌<◌, ◌≤◌, ◌^◌, ◌∷◌, [], ℕ, ℤ, Bool, IfOk, List, codes, length, map};
 ghost use Rattle.std.specs.Fmt.{signed_decimal};
-ghost use Rattle.dk_base.specs.Spelling.{IsWritten, bool_text, hash_text, spelling};
 ghost use Rattle.dk_base.specs.Values.{IsOfKind};
+ghost use Rattle.dk_base.specs.Values.Spelling.{IsWritten, bool_text, hash_text, spelling};
 ghost use Rattle.dk_base.specs.declared.values.Value.{Value as Values};
 ghost use Rattle.dk_forms.specs.declared.states.State.{State as States};
 ghost use Rattle.dk_state.specs.Fitting.{FitsState};

@@ -1,7 +1,7 @@
 // States, as they are saved.
 ghost use Rattle.std.specs.Prelude.{◌≡◌, ◌++◌, OnOk, map};
 ghost use Rattle.std.specs.Fmt.{signed_decimal};
-ghost use Rattle.dk_base.specs.Spelling.{bool_text, hash_text};
+ghost use Rattle.dk_base.specs.Values.Spelling.{bool_text, hash_text};
 ghost use Rattle.dk_state.specs.Lines.{behind_blank, fields_text};
 ghost use Rattle.dk_state.specs.States.{state_fields};
 

@@ -1,7 +1,7 @@
 -- Which fits follow from which: the rules are sound over any samples.
 use Rattle.std.specs.Prelude.{◌≡◌, ℕ, zero, suc, List, All, IsTrue, length}
 use Rattle.std.specs.List.{list_all}
-use Rattle.dk_base.specs.Spelling.{IsWritten}
+use Rattle.dk_base.specs.Values.Spelling.{IsWritten}
 use Rattle.dk_base.specs.declared.kinds.VarId.{VarId}
 use Rattle.dk_base.specs.declared.values.Value.{Value}
 use Rattle.dk_forms.specs.declared.states.State.{State}

@@ -4,9 +4,9 @@ use Rattle.std.specs.Prelude.{Err, negsuc, pos}
 use Rattle.std.specs.Fmt.{digits}
 use Rattle.csv.specs.Machine.{next_record}
 use Rattle.csv.specs.Reading.{records_from, strip_bom}
-use Rattle.dk_base.specs.Items.{is_quoted, is_text}
 use Rattle.dk_base.specs.Numbers.{integer_of, whole_of}
 use Rattle.dk_base.specs.Pieces.{pieces}
+use Rattle.dk_base.specs.Values.Items.{is_quoted, is_text}
 use Rattle.dk_base.specs.declared.kinds.Kind.{Kind}
 use Rattle.dk_base.specs.declared.kinds.Kind.TheVariants as own
 use Rattle.dk_base.specs.declared.values.Value.TheVariants as value

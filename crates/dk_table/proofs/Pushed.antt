@@ -5,7 +5,7 @@ use Rattle.std.specs.Prelude.{is_some, option_and_then, option_map}
 use Rattle.dk_base.specs.Numbers.{integer_of}
 use Rattle.dk_base.specs.declared.values.Value.{Value}
 use Rattle.dk_base.specs.declared.values.Value.TheVariants as value
-use Rattle.dk_base.specs.Spelling.{spelling}
+use Rattle.dk_base.specs.Values.Spelling.{spelling}
 use Rattle.dk_decl.specs.Types.{is_missing}
 use Rattle.dk_lines.specs.Passing.{joined}
 use Rattle.dk_table.specs.Columns.Cells.{decimal_of, dot_of, is_shortest, whole}

@@ -9,7 +9,7 @@ use Rattle.std.proofs.lemmas.Bool.{and_parts, false≢true, not-false}
 use Rattle.std.proofs.lemmas.List.{length-map}
 use Rattle.std.proofs.lemmas.List.Elements.{All-cons, All-nil}
 use Rattle.std.proofs.lemmas.List.Folds.{list_all-append}
-use Rattle.dk_base.specs.Items.{closes_quote, is_quoted, is_text}
+use Rattle.dk_base.specs.Values.Items.{closes_quote, is_quoted, is_text}
 use Rattle.dk_base.specs.Names.{escaped}
 use Rattle.dk_base.specs.Numbers.{fits_i64, integer_of, whole_of}
 use Rattle.dk_base.specs.declared.kinds.Kind.{Kind}

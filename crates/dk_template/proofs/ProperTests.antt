@@ -13,7 +13,7 @@ use Rattle.std.proofs.lemmas.Cmp.{int_cmp_total, nat_list_cmp_total}
 use Rattle.std.proofs.lemmas.Int.{ints}
 use Rattle.dk_arith.specs.Directions.{IsNormal, IsNormal3, gcd_of_three}
 use Rattle.dk_arith.specs.Gcd.{gcd}
-use Rattle.dk_base.specs.Items.{is_text}
+use Rattle.dk_base.specs.Values.Items.{is_text}
 use Rattle.dk_forms.proofs.PointOrder.{before_antisymmetric, before_or}
 use Rattle.dk_forms.specs.Distinct.{IsFew}
 use Rattle.dk_forms.specs.Line.{IsSpot, IsStraight}

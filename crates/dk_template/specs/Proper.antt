@@ -1,6 +1,6 @@
 -- Which states are proper for a row: Empty, Broken, and those of the row's form within its bounds.
 use Rattle.std.specs.Prelude.{◌<◌, ◌^◌, All, IsTrue, unsigned_abs}
-use Rattle.dk_base.specs.Items.{is_text}
+use Rattle.dk_base.specs.Values.Items.{is_text}
 use Rattle.dk_forms.specs.Code.{IsCodeState}
 use Rattle.dk_forms.specs.Greatest.{IsGreatestState}
 use Rattle.dk_forms.specs.Ints.{IsIntsState}

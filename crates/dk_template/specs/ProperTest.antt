@@ -6,7 +6,7 @@ use Rattle.std.specs.Cmp.Lexicographic.{slice_cmp}
 use Rattle.std.specs.declared.cmp.Ordering.{Ordering}
 use Rattle.dk_arith.specs.Directions.{gcd_of_three}
 use Rattle.dk_arith.specs.Gcd.{gcd}
-use Rattle.dk_base.specs.Items.{is_text}
+use Rattle.dk_base.specs.Values.Items.{is_text}
 use Rattle.dk_forms.specs.Plane.{is_before}
 use Rattle.dk_forms.specs.declared.states.State.{State}
 use Rattle.dk_forms.specs.declared.states.State.TheVariants as state

@@ -4,7 +4,7 @@ ghost use Rattle.std.specs.List.{list_all};
 ghost use Rattle.std.specs.Ordering.{int_cmp, nat_cmp};
 ghost use Rattle.std.specs.Cmp.Lexicographic.{slice_cmp};
 ghost use Rattle.dk_arith.specs.Directions.{gcd_of_three};
-ghost use Rattle.dk_base.specs.Items.{is_text as is_string};
+ghost use Rattle.dk_base.specs.Values.Items.{is_text as is_string};
 ghost use Rattle.dk_forms.specs.Plane.{is_before};
 ghost use Rattle.dk_template.specs.Ascending.{ascends};
 ghost use Rattle.dk_template.specs.Proper.{IsProper};

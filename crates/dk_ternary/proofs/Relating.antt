@@ -1,6 +1,6 @@
 -- What the rows of three variables say of one tuple.
 use Rattle.std.specs.Prelude.{◌≡◌, List, [], ◌∷◌, refl}
-use Rattle.dk_base.specs.Tuples.{int_of, value_at}
+use Rattle.dk_base.specs.Values.Tuples.{int_of, value_at}
 use Rattle.dk_base.specs.declared.values.Value.{Value}
 use Rattle.dk_forms.specs.Plane.{plane_of}
 use Rattle.dk_meanings.specs.Meanings.{meanings, relation_of, state_of}

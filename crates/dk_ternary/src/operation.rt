@@ -1,7 +1,7 @@
 // The rows that state the result of an operation.
 ghost use Rattle.std.specs.Prelude.{◌≡◌, ◌∷◌, [], IfSome};
-ghost use Rattle.dk_base.specs.Tuples.{int_of, value_at};
 ghost use Rattle.dk_base.specs.Values.{values_of};
+ghost use Rattle.dk_base.specs.Values.Tuples.{int_of, value_at};
 ghost use Rattle.dk_base.specs.declared.kinds.Kind.TheVariants as kind;
 ghost use Rattle.dk_template.specs.Rows.{IsTuple};
 ghost use Rattle.dk_ternary.specs.Rows.{is_result, operation_row};

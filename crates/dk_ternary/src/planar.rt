@@ -1,7 +1,7 @@
 // The row of the plane through all points.
 ghost use Rattle.std.specs.Prelude.{◌≡◌, ◌↔◌, ◌∷◌, [], IsTrue};
-ghost use Rattle.dk_base.specs.Tuples.{int_of, value_at};
 ghost use Rattle.dk_base.specs.Values.{values_of};
+ghost use Rattle.dk_base.specs.Values.Tuples.{int_of, value_at};
 ghost use Rattle.dk_base.specs.declared.kinds.Kind.TheVariants as kind;
 ghost use Rattle.dk_forms.specs.Plane.{IsPlaneState, plane_join, plane_of};
 ghost use Rattle.dk_template.specs.Rows.{IsTuple};

@@ -15,7 +15,7 @@ struct Less;
 
 impl Row for Less {
     ghost use Rattle.std.specs.Prelude.{◌∷◌, [], map, int_lt};
-    ghost use Rattle.dk_base.specs.Tuples.{int_of, value_at};
+    ghost use Rattle.dk_base.specs.Values.Tuples.{int_of, value_at};
     ghost use Rattle.dk_base.specs.declared.kinds.Kind.TheVariants as kind;
     ghost use Rattle.dk_forms.specs.Plain.{plain_of};
     ghost use Rattle.dk_forms.proofs.PlainLaws.{plain_laws, plain_summary};

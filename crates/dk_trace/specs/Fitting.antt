@@ -2,8 +2,8 @@
 use Rattle.std.specs.Prelude.{◌≡◌, ℕ, true, All, List, filter_map, Option, Some, None, Ok}
 use Rattle.std.specs.List.{AllZip}
 use Rattle.dk_base.specs.Reading.{Line}
-use Rattle.dk_base.specs.Spelling.{IsWritten}
 use Rattle.dk_base.specs.Values.{IsOfKind}
+use Rattle.dk_base.specs.Values.Spelling.{IsWritten}
 use Rattle.dk_base.specs.declared.kinds.Kind.{Kind}
 use Rattle.dk_base.specs.declared.values.Value.{Value}
 use Rattle.dk_decl.specs.declared.decls.VarDecl.{VarDecl}

@@ -1,6 +1,6 @@
 -- What the rows of one variable say of one tuple.
 use Rattle.std.specs.Prelude.{◌≡◌, List, [], ◌∷◌, refl}
-use Rattle.dk_base.specs.Tuples.{bool_of, hash_of, int_of, text_of, value_at}
+use Rattle.dk_base.specs.Values.Tuples.{bool_of, hash_of, int_of, text_of, value_at}
 use Rattle.dk_base.specs.declared.values.Value.{Value}
 use Rattle.dk_forms.specs.Code.{code_of}
 use Rattle.dk_forms.specs.Distinct.{put}

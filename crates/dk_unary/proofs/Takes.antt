@@ -1,7 +1,7 @@
 -- The kinds and forms of the rows of one variable.
 use Rattle.std.specs.Prelude.{◌≡◌, List, Some, refl}
-use Rattle.dk_base.specs.Tuples.{value_at}
 use Rattle.dk_base.specs.Values.{kind_of}
+use Rattle.dk_base.specs.Values.Tuples.{value_at}
 use Rattle.dk_base.specs.declared.kinds.Kind.{Kind}
 use Rattle.dk_base.specs.declared.kinds.Kind.TheVariants as kind
 use Rattle.dk_base.specs.declared.values.Value.{Value}

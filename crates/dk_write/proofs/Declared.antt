@@ -8,12 +8,12 @@ use Rattle.std.proofs.lemmas.Bool.{and_parts, false≢true, lt-ltb, not-true}
 use Rattle.std.proofs.lemmas.List.Folds.{list_all-append}
 use Rattle.std.proofs.lemmas.List.Elements.{All-cons, All-head, All-nil, All-tail}
 use Rattle.std.proofs.lemmas.Slice.Eq.{bytes_eq-Decides}
-use Rattle.dk_base.specs.Items.{is_text}
+use Rattle.dk_base.specs.Values.Items.{is_text}
 use Rattle.dk_base.specs.Names.{escaped}
 use Rattle.dk_base.specs.Numbers.{fits_i64}
 use Rattle.dk_base.specs.Pieces.{is_blank}
 use Rattle.dk_base.specs.Reading.{Line, LineFault, ◌>>=◌}
-use Rattle.dk_base.specs.Spelling.{IsWritten, spelling}
+use Rattle.dk_base.specs.Values.Spelling.{IsWritten, spelling}
 use Rattle.dk_base.specs.Values.{IsOfKind, value_of_text}
 use Rattle.dk_base.specs.Words.{without_front, words}
 use Rattle.dk_base.specs.declared.kinds.Compar.{Compar}

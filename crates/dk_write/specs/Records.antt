@@ -3,7 +3,7 @@ use Rattle.std.specs.Prelude.{ℕ, ℤ, List, [], ◌∷◌, ◌++◌, codes, fl
 use Rattle.std.specs.Fmt.{signed_decimal}
 use Rattle.std.specs.List.{zip}
 use Rattle.dk_base.specs.Names.{escaped}
-use Rattle.dk_base.specs.Spelling.{spelling}
+use Rattle.dk_base.specs.Values.Spelling.{spelling}
 use Rattle.dk_base.specs.declared.values.Value.{Value}
 use Rattle.dk_decl.specs.Types.{is_missing}
 use Rattle.dk_decl.specs.declared.decls.PointDecl.{PointDecl}

@@ -2,9 +2,9 @@
 ghost use Rattle.std.specs.Prelude.{◌≡◌, ◌++◌, ◌&&◌, IfOk, OnOk, unwrap_or, if◌then◌else◌};
 ghost use Rattle.std.specs.List.{list_all};
 ghost use Rattle.std.specs.Option.{option_map_or};
-ghost use Rattle.dk_base.specs.Items.{is_text as is_text_of};
-ghost use Rattle.dk_base.specs.Spelling.{spelling};
 ghost use Rattle.dk_base.specs.Values.{value_of};
+ghost use Rattle.dk_base.specs.Values.Items.{is_text as is_text_of};
+ghost use Rattle.dk_base.specs.Values.Spelling.{spelling};
 ghost use Rattle.dk_decl.specs.Types.{is_missing};
 ghost use Rattle.dk_write.specs.Records.{mark_text, value_text};
 ghost use Rattle.dk_write.specs.Writable.{is_of_kind, is_value_of};

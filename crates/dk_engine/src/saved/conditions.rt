@@ -1,10 +1,10 @@
 // Whether kept parts meet the conditions, but for suppression.
 ghost use Rattle.std.specs.Prelude.{◌≡◌, ◌↔◌, ◌<◌, ◌^◌, All, Contains, IsTrue, length};
 ghost use Rattle.std.specs.List.{AllPairs};
-ghost use Rattle.dk_base.specs.Items.{is_text as is_string};
 ghost use Rattle.dk_base.specs.Numbers.{fits_i64};
-ghost use Rattle.dk_base.specs.Spelling.{IsWritten};
 ghost use Rattle.dk_base.specs.Values.{IsOfKind};
+ghost use Rattle.dk_base.specs.Values.Items.{is_text as is_string};
+ghost use Rattle.dk_base.specs.Values.Spelling.{IsWritten};
 ghost use Rattle.dk_classes.specs.Classes.{kind_at, var_kinds};
 ghost use Rattle.dk_classes.specs.Leaders.{AreClasses, own_leaders};
 ghost use Rattle.dk_engine.specs.Exact.{IsOverLeaders, Lead, SlotBefore};

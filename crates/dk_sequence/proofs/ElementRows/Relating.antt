@@ -3,7 +3,7 @@ use Rattle.std.specs.Prelude.{◌≡◌, ◌&&◌, ◌||◌, Bool, true, false, 
 use Rattle.std.specs.List.{list_all, list_any}
 use Rattle.std.proofs.Common.{ap}
 use Rattle.std.proofs.lemmas.List.{append-nil}
-use Rattle.dk_base.specs.Tuples.{bools_of, hashes_of, int_of, ints_of, texts_of, value_at}
+use Rattle.dk_base.specs.Values.Tuples.{bools_of, hashes_of, int_of, ints_of, texts_of, value_at}
 use Rattle.dk_base.specs.declared.values.Value.{Value}
 use Rattle.dk_forms.specs.Code.{code_of}
 use Rattle.dk_forms.specs.Greatest.{greatest_of}

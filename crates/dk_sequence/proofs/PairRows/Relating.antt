@@ -2,7 +2,7 @@
 use Rattle.std.specs.Prelude.{◌≡◌, List, [], ◌∷◌, refl}
 use Rattle.std.proofs.Common.{ap}
 use Rattle.std.proofs.lemmas.List.{append-nil}
-use Rattle.dk_base.specs.Tuples.{ints_of, value_at}
+use Rattle.dk_base.specs.Values.Tuples.{ints_of, value_at}
 use Rattle.dk_base.specs.declared.values.Value.{Value}
 use Rattle.dk_forms.specs.Offset.{differences, offset_of}
 use Rattle.dk_meanings.specs.Meanings.{meanings, relation_of, state_of}

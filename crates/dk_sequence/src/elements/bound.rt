@@ -1,7 +1,7 @@
 // The rows that keep a bound of the elements.
 ghost use Rattle.std.specs.Prelude.{◌≡◌, ◌↔◌, [], ◌∷◌, IsTrue};
-ghost use Rattle.dk_base.specs.Tuples.{ints_of, value_at};
 ghost use Rattle.dk_base.specs.Values.{values_of};
+ghost use Rattle.dk_base.specs.Values.Tuples.{ints_of, value_at};
 ghost use Rattle.dk_base.specs.declared.kinds.Kind.TheVariants as kind;
 ghost use Rattle.dk_sequence.specs.Elements.{bound_row, bound_state};
 ghost use Rattle.dk_template.specs.Joins.{joined};

@@ -1,7 +1,7 @@
 // The rows that state a relation of each element with a number.
 ghost use Rattle.std.specs.Prelude.{◌≡◌, [], ◌∷◌};
-ghost use Rattle.dk_base.specs.Tuples.{int_of, ints_of, value_at};
 ghost use Rattle.dk_base.specs.Values.{values_of};
+ghost use Rattle.dk_base.specs.Values.Tuples.{int_of, ints_of, value_at};
 ghost use Rattle.dk_base.specs.declared.kinds.Kind.TheVariants as kind;
 ghost use Rattle.dk_lanes.specs.Lanes.{all_relate};
 ghost use Rattle.dk_sequence.specs.Elements.{compare_row};

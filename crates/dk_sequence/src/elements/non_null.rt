@@ -1,8 +1,8 @@
 // The rows that state that no element is 0 or `null`.
 ghost use Rattle.std.specs.Prelude.{◌≡◌, [], ◌∷◌};
 ghost use Rattle.std.specs.List.{list_all};
-ghost use Rattle.dk_base.specs.Tuples.{value_at};
 ghost use Rattle.dk_base.specs.Values.{values_of};
+ghost use Rattle.dk_base.specs.Values.Tuples.{value_at};
 ghost use Rattle.dk_meanings.specs.Relations.{is_nonnull, is_nonzero, is_nonzero_hash};
 ghost use Rattle.dk_sequence.specs.Elements.{has_no_null, non_null_kind, non_null_row};
 ghost use Rattle.dk_template.specs.Rows.{IsTuple};

@@ -1,7 +1,7 @@
 // The rows that keep the elements of a sequence, where they are few.
 ghost use Rattle.std.specs.Prelude.{◌≡◌, ◌↔◌, [], ◌∷◌, IfOk, IsTrue, OnErr};
-ghost use Rattle.dk_base.specs.Tuples.{value_at};
 ghost use Rattle.dk_base.specs.Values.{values_of};
+ghost use Rattle.dk_base.specs.Values.Tuples.{value_at};
 ghost use Rattle.dk_sequence.specs.Elements.{one_of_kind, one_of_row, one_of_state};
 ghost use Rattle.dk_template.specs.Joins.{joined};
 ghost use Rattle.dk_template.specs.Proper.{IsProper};

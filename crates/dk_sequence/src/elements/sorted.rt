@@ -1,7 +1,7 @@
 // The rows that state a relation of each element with the next.
 ghost use Rattle.std.specs.Prelude.{◌≡◌, [], ◌∷◌};
-ghost use Rattle.dk_base.specs.Tuples.{ints_of, value_at};
 ghost use Rattle.dk_base.specs.Values.{values_of};
+ghost use Rattle.dk_base.specs.Values.Tuples.{ints_of, value_at};
 ghost use Rattle.dk_base.specs.declared.kinds.Kind.TheVariants as kind;
 ghost use Rattle.dk_lanes.specs.Lanes.{is_sorted};
 ghost use Rattle.dk_sequence.specs.Elements.{sorted_row};

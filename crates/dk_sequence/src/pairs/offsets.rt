@@ -1,7 +1,7 @@
 // The row of the offset of two sequences.
 ghost use Rattle.std.specs.Prelude.{◌≡◌, ◌↔◌, ◌∷◌, [], IsTrue};
-ghost use Rattle.dk_base.specs.Tuples.{ints_of, value_at};
 ghost use Rattle.dk_base.specs.Values.{values_of};
+ghost use Rattle.dk_base.specs.Values.Tuples.{ints_of, value_at};
 ghost use Rattle.dk_base.specs.declared.kinds.Kind.TheVariants as kind;
 ghost use Rattle.dk_forms.specs.Offset.{IsOffsetState, differences, offset_join, offset_of};
 ghost use Rattle.dk_sequence.specs.Pairs.{offset_row};

@@ -1,8 +1,8 @@
 // The rows that state a relation of each element of a sequence of numbers and its partner in another.
 ghost use Rattle.std.specs.Prelude.{◌≡◌, ◌∷◌, []};
 ghost use Rattle.std.specs.Ordering.{int_eq};
-ghost use Rattle.dk_base.specs.Tuples.{ints_of, value_at};
 ghost use Rattle.dk_base.specs.Values.{values_of};
+ghost use Rattle.dk_base.specs.Values.Tuples.{ints_of, value_at};
 ghost use Rattle.dk_base.specs.declared.kinds.Kind.TheVariants as kind;
 ghost use Rattle.dk_meanings.specs.Relations.{is_reverse};
 ghost use Rattle.dk_sequence.specs.Pairs.{are_related, partners_row};

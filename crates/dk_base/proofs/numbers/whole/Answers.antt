@@ -1,7 +1,7 @@
 use Rattle.std.proofs.Common.{◌∙◌, ℤ, w64, SFits, ap, rules}
 use Rattle.std.proofs.lemmas.Int.{to_z-of_z}
-use Rattle.dk_base.specs.declared.items.Item.{Item}
-use Rattle.dk_base.specs.declared.items.Item.TheVariants.{Present}
+use Rattle.dk_base.specs.declared.values.items.Item.{Item}
+use Rattle.dk_base.specs.declared.values.items.Item.TheVariants.{Present}
 use Rattle.dk_base.proofs.Digits.{all_number, nothing}
 use Rattle.dk_base.proofs.numbers.whole.Goals as goal
 

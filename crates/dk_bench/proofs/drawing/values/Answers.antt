@@ -1,7 +1,7 @@
 use Rattle.std.specs.Prelude.{All}
 use Rattle.std.proofs.Common.{ap, subst, sym}
-use Rattle.dk_base.specs.Spelling.{IsWritten}
 use Rattle.dk_base.specs.Values.{values_of}
+use Rattle.dk_base.specs.Values.Spelling.{IsWritten}
 use Rattle.dk_bench.proofs.Written.{written_push}
 use Rattle.dk_bench.proofs.drawing.values.Goals as goal
 

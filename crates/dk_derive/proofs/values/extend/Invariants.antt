@@ -1,7 +1,7 @@
 use Rattle.std.proofs.Common.{◌≡◌, ◌++◌, All, drop, map}
 use Rattle.std.specs.List.{enumerate_from}
-use Rattle.dk_base.specs.Spelling.{IsWritten}
 use Rattle.dk_base.specs.Values.{values_of}
+use Rattle.dk_base.specs.Values.Spelling.{IsWritten}
 use Rattle.dk_derive.specs.Values.{value_by_form, values_by_form}
 use Rattle.dk_derive.proofs.values.extend.Given as goal
 

@@ -1,5 +1,5 @@
 use Rattle.std.proofs.lemmas.Bool.Decides.{same_from_decides}
-use Rattle.dk_base.specs.SameValues.{same_value}
+use Rattle.dk_base.specs.Values.SameValues.{same_value}
 use Rattle.dk_base.proofs.ValueTests.{same_value-decides}
 use Rattle.dk_points.proofs.sameness.same_value.Goals as goal
 

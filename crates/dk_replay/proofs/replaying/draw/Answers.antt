@@ -1,7 +1,7 @@
 use Rattle.std.specs.Prelude.{◌≡◌, ◌-◌, All, List, Some, length, option_copied, slice_get}
 use Rattle.std.proofs.Common.{ap, subst, sym, ◌∙◌}
-use Rattle.dk_base.specs.Spelling.{IsWritten}
 use Rattle.dk_base.specs.Values.{values_of}
+use Rattle.dk_base.specs.Values.Spelling.{IsWritten}
 use Rattle.dk_base.specs.declared.values.View.{View}
 use Rattle.dk_replay.proofs.Drawing.{written_got}
 use Rattle.dk_replay.proofs.replaying.draw.Goals as goal

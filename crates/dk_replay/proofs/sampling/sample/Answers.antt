@@ -1,7 +1,7 @@
 use Rattle.std.specs.Prelude.{All, List}
 use Rattle.std.proofs.Common.{subst, sym}
-use Rattle.dk_base.specs.Spelling.{IsWritten}
 use Rattle.dk_base.specs.Values.{values_of}
+use Rattle.dk_base.specs.Values.Spelling.{IsWritten}
 use Rattle.dk_base.specs.declared.values.View.{View}
 use Rattle.dk_replay.proofs.Drawing.{value_more}
 use Rattle.dk_replay.proofs.sampling.sample.Goals as goal

@@ -1,6 +1,6 @@
 use Rattle.std.specs.Prelude.{◌++◌, ◌∷◌, unwrap_or}
 use Rattle.std.proofs.Common.{subst, sym}
-use Rattle.dk_base.specs.Spelling.{spelling}
+use Rattle.dk_base.specs.Values.Spelling.{spelling}
 use Rattle.dk_base.specs.declared.values.Value.TheVariants.{Missing}
 use Rattle.dk_state.specs.Fitting.{FitsConstant}
 use Rattle.dk_state.specs.Lines.{behind_blank}

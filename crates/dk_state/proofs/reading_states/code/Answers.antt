@@ -1,6 +1,6 @@
 use Rattle.std.specs.Prelude.{◌++◌, ◌∷◌, refl}
 use Rattle.std.proofs.Common.{◌∙◌, ap, append-nil}
-use Rattle.dk_base.specs.Spelling.{hash_text}
+use Rattle.dk_base.specs.Values.Spelling.{hash_text}
 use Rattle.dk_base.specs.declared.values.Value.TheVariants.{Hash}
 use Rattle.dk_state.specs.Lines.{behind_blank}
 use Rattle.dk_state.proofs.reading_states.code.Goals as goal

@@ -2,7 +2,7 @@ use Rattle.std.specs.Prelude.{◌≡◌, ◌++◌, ◌∷◌, [], ℕ, IsTrue, L
 use Rattle.std.specs.List.{join_with_byte}
 use Rattle.std.proofs.Common.{◌∙◌, ap, arith, subst}
 use Rattle.std.proofs.lemmas.List.{map-id}
-use Rattle.dk_base.specs.Items.{is_text}
+use Rattle.dk_base.specs.Values.Items.{is_text}
 use Rattle.dk_base.specs.declared.values.Value.TheVariants.{StrSeq}
 use Rattle.dk_forms.specs.declared.states.State.TheVariants.{Texts}
 use Rattle.dk_state.specs.Fitting.{FitsState}

@@ -1,6 +1,6 @@
 use Rattle.std.specs.Prelude.{◌++◌, ◌∷◌, refl}
 use Rattle.std.proofs.Common.{◌∙◌, ap, append-nil}
-use Rattle.dk_base.specs.Spelling.{bool_text}
+use Rattle.dk_base.specs.Values.Spelling.{bool_text}
 use Rattle.dk_base.specs.declared.values.Value.TheVariants.{Bool}
 use Rattle.dk_state.specs.Lines.{behind_blank}
 use Rattle.dk_state.proofs.reading_states.truth.Goals as goal

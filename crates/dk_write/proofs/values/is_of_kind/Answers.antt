@@ -1,6 +1,6 @@
 use Rattle.std.proofs.Common.{◌∙◌, sym}
 use Rattle.std.proofs.lemmas.List.Folds.{list_all-map}
-use Rattle.dk_base.specs.Items.{is_text}
+use Rattle.dk_base.specs.Values.Items.{is_text}
 use Rattle.dk_write.proofs.values.is_of_kind.Goals as goal
 
 pub returns-in-StrSeq-StrSeq : goal.returns-in-StrSeq-StrSeq

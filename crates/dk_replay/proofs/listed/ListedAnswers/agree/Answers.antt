@@ -2,8 +2,8 @@ use Rattle.std.specs.Prelude.{◌≡◌, ◌&&◌, Bool, List, true, false}
 use Rattle.std.specs.List.{list_all}
 use Rattle.std.proofs.Common.{ap, get_or, sym, ◌∙◌}
 use Rattle.dk_base.proofs.ValueTests.{value_test}
-use Rattle.dk_base.specs.SameValues.{same_value}
 use Rattle.dk_base.specs.Values.{value_of, values_of}
+use Rattle.dk_base.specs.Values.SameValues.{same_value}
 use Rattle.dk_base.specs.declared.values.Value.{Value}
 use Rattle.dk_base.specs.declared.values.View.{View}
 use Rattle.dk_samples.specs.Samples.{value_in}

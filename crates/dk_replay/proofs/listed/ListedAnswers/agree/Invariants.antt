@@ -1,6 +1,6 @@
 use Rattle.std.specs.Prelude.{◌≡◌, take, true}
 use Rattle.std.specs.List.{list_all}
-use Rattle.dk_base.specs.SameValues.{same_value}
+use Rattle.dk_base.specs.Values.SameValues.{same_value}
 use Rattle.dk_replay.specs.Samples.{samples_of}
 use Rattle.dk_samples.specs.Samples.{value_in}
 use Rattle.dk_replay.proofs.listed.ListedAnswers.agree.Given as goal

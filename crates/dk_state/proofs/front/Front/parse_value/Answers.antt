@@ -1,5 +1,5 @@
 use Rattle.std.proofs.Common.{◌∙◌, ap, subst, sym}
-use Rattle.dk_base.specs.Spelling.{IsWritten}
+use Rattle.dk_base.specs.Values.Spelling.{IsWritten}
 use Rattle.dk_base.specs.Values.{IsOfKind, value_of_text}
 use Rattle.dk_base.proofs.ReadBack.{spelled_back}
 use Rattle.dk_state.proofs.ReadWithin.{value_within}

@@ -1,5 +1,5 @@
 use Rattle.std.proofs.Common.{◌∙◌}
-use Rattle.dk_base.specs.Spelling.{spelling}
+use Rattle.dk_base.specs.Values.Spelling.{spelling}
 use Rattle.dk_state.proofs.Plain.{if_ok_weaker, value_plain}
 use Rattle.dk_state.proofs.front.Front.value.Goals as goal
 

@@ -5,7 +5,7 @@ use Rattle.dk_samples.specs.Samples.{value_in}
 use Rattle.dk_base.proofs.ValueTests.{value_test}
 use Rattle.dk_engine.specs.Reading.Levels.{OneMore}
 use Rattle.dk_engine.specs.Reading.{agree_read}
-use Rattle.dk_base.specs.SameValues.{same_value}
+use Rattle.dk_base.specs.Values.SameValues.{same_value}
 use Rattle.dk_engine.proofs.feed.after.AfterAnswers.agree.Goals as goal
 
 pub returns-then-agree : goal.returns-then-agree

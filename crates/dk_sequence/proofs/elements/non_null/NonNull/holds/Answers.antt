@@ -3,8 +3,8 @@ use Rattle.std.specs.Borrow.{Bor}
 use Rattle.std.specs.List.{list_all}
 use Rattle.std.proofs.Common.{ap, sym, ◌∙◌}
 use Rattle.std.proofs.lemmas.List.Folds.{list_all-map}
-use Rattle.dk_base.specs.Tuples.{value_at}
 use Rattle.dk_base.specs.Values.{values_of}
+use Rattle.dk_base.specs.Values.Tuples.{value_at}
 use Rattle.dk_meanings.specs.Relations.{is_nonnull}
 use Rattle.dk_sequence.specs.Elements.{has_no_null}
 use Rattle.dk_sequence.proofs.elements.non_null.NonNull.holds.Goals as goal

@@ -1,6 +1,0 @@
-use Rattle.std.proofs.Common.{◌∙◌}
-use Rattle.dk_base.proofs.Wordless.{hash_by_number}
-use Rattle.dk_base.proofs.items.hash_item.Goals as goal
-
-pub returns-in_default : goal.returns-in_default
-returns-in_default c = c.code.ensures ∙ hash_by_number c.args.text.now (λ bad. c.in_default.not-Bad (c.code.ensures ∙ bad))
