@@ -6,6 +6,7 @@ where a line says something follow `docs/USING.md`, Expressions. Bytes are told 
 
 from __future__ import annotations
 
+import glob
 import keyword
 import os
 import re
@@ -25,7 +26,8 @@ OF_ELEMENTS = (35, 44, 47)
 
 def definition(name: str) -> str:
     """The text of a file of definitions."""
-    with open(os.path.join(SPECS, name + ".antt"), encoding="utf-8") as file:
+    (path,) = glob.glob(os.path.join(SPECS, "**", name + ".antt"), recursive=True)
+    with open(path, encoding="utf-8") as file:
         return file.read()
 
 

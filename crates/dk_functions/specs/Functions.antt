@@ -4,7 +4,7 @@ use Rattle.std.specs.List.{join_by}
 use Rattle.dk_base.specs.declared.kinds.VarInfo.{VarInfo}
 use Rattle.dk_functions.specs.Parameters.{parameter_texts}
 use Rattle.dk_functions.specs.Quoting.{quoted}
-use Rattle.dk_languages.specs.Paths.{is_symbol_byte, is_word_byte}
+use Rattle.dk_languages.specs.Bases.Paths.{is_symbol_byte, is_word_byte}
 use Rattle.dk_languages.specs.declared.languages.Language.{Language}
 use Rattle.dk_languages.specs.declared.languages.Language.TheVariants as language
 

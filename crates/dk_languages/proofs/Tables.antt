@@ -4,12 +4,12 @@ use Rattle.std.proofs.lemmas.Bool.{and_from, and_parts, not-true, not_from_false
 use Rattle.std.specs.Prelude.{IsSome, if◌then◌else◌, not}
 use Rattle.std.specs.List.{list_all}
 use Rattle.dk_base.specs.Pieces.{is_empty}
-use Rattle.dk_languages.specs.CRows.{c_rows}
 use Rattle.dk_languages.specs.Laws.{EachRowHasALine, EachRowIsTold}
 use Rattle.dk_languages.specs.Literals.{can_say}
-use Rattle.dk_languages.specs.PythonRows.{python_rows}
 use Rattle.dk_languages.specs.Rows.{row_in}
-use Rattle.dk_languages.specs.SmtlibRows.{smtlib_rows}
+use Rattle.dk_languages.specs.Rows.CRows.{c_rows}
+use Rattle.dk_languages.specs.Rows.PythonRows.{python_rows}
+use Rattle.dk_languages.specs.Rows.SmtlibRows.{smtlib_rows}
 use Rattle.dk_languages.specs.Speaking.{is_spoken}
 use Rattle.dk_languages.specs.Tellings.{guarded, is_telling, roles_of, row_text}
 use Rattle.dk_languages.specs.declared.languages.Language.TheVariants as language

@@ -2,7 +2,7 @@
 use Rattle.std.proofs.Common.{◌≡◌, ◌<◌, ◌≤◌, ◌+◌, ℕ, true, false, List, length, drop, get_or}
 use Rattle.std.proofs.lemmas.List.Sums.{prefix_len-drop_all, prefix_len-drop_no, prefix_len-drop_yes}
 use Rattle.std.specs.List.{prefix_len}
-use Rattle.dk_languages.specs.Paths.{is_word_byte}
+use Rattle.dk_languages.specs.Bases.Paths.{is_word_byte}
 
 pub word_ends : (bs : List ℕ) (i : ℕ) → length bs ≤ i → prefix_len is_word_byte (drop i bs) ≡ 0
 word_ends bs i past = prefix_len-drop_all is_word_byte bs i past

@@ -1,4 +1,6 @@
 -- The base variables of a point in a language, and the parameters that they are told by.
+pub mod Paths
+pub mod Roots
 use Rattle.std.specs.Prelude.{◌&&◌, ℕ, Bool, true, false, not, List, [], ◌∷◌, flat_map, map, if◌then◌else◌}
 use Rattle.std.specs.Bool.{beq}
 use Rattle.std.specs.List.{list_all}
@@ -9,7 +11,7 @@ use Rattle.dk_languages.specs.declared.variables.Base.{Base}
 use Rattle.dk_languages.specs.declared.variables.Parameter.{Parameter}
 use Rattle.dk_languages.specs.declared.languages.Language.{Language}
 use Rattle.dk_languages.specs.declared.languages.Language.TheVariants as language
-use Rattle.dk_languages.specs.Paths.{has_path, inner_name, path_name, path_text, root, root_text, size_text}
+use Rattle.dk_languages.specs.Bases.Paths.{has_path, inner_name, path_name, path_text, root, root_text, size_text}
 
 -- ---- parameters
 -- what a root stands for: the first word of a path, and in SMT-LIB a variable

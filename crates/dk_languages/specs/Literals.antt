@@ -1,4 +1,6 @@
 -- Values as literals.
+pub mod Escapes
+pub mod Numbers
 use Rattle.std.specs.Prelude.{◌==◌, ◌++◌, ◌/◌, ◌%◌, ◌+◌, ◌&&◌, ℕ, nat_le, nat_lt, Bool, true, false, not, List, [], ◌∷◌, codes, flat_map, map, if◌then◌else◌}
 use Rattle.std.specs.List.{list_all}
 use Rattle.std.specs.Fmt.{digits}
@@ -7,8 +9,8 @@ use Rattle.dk_forms.specs.declared.states.State.{State}
 use Rattle.dk_forms.specs.declared.states.State.TheVariants as state
 use Rattle.dk_languages.specs.declared.languages.Language.{Language}
 use Rattle.dk_languages.specs.declared.languages.Language.TheVariants as language
-use Rattle.dk_languages.specs.Escapes.{has_known_escapes}
-use Rattle.dk_languages.specs.Numbers.{number_text}
+use Rattle.dk_languages.specs.Literals.Escapes.{has_known_escapes}
+use Rattle.dk_languages.specs.Literals.Numbers.{number_text}
 
 -- ---- truth values
 abbrev pub truth_text : Language → Bool → List ℕ

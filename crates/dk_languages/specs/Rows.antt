@@ -1,12 +1,15 @@
 -- The tables of all rows.
+pub mod CRows
+pub mod PythonRows
+pub mod SmtlibRows
 use Rattle.std.specs.Prelude.{◌==◌, ◌||◌, ℕ, Bool, List, [], codes, slice_index_or, if◌then◌else◌}
 use Rattle.dk_template.specs.Numbers as number
 use Rattle.dk_template.specs.declared.grammar.RowId.{RowId}
 use Rattle.dk_languages.specs.declared.languages.Language.{Language}
 use Rattle.dk_languages.specs.declared.languages.Language.TheVariants as language
-use Rattle.dk_languages.specs.CRows.{c_rows}
-use Rattle.dk_languages.specs.PythonRows.{python_rows}
-use Rattle.dk_languages.specs.SmtlibRows.{smtlib_rows}
+use Rattle.dk_languages.specs.Rows.CRows.{c_rows}
+use Rattle.dk_languages.specs.Rows.PythonRows.{python_rows}
+use Rattle.dk_languages.specs.Rows.SmtlibRows.{smtlib_rows}
 
 abbrev pub rows_in : Language → List (List ℕ)
 rows_in language.Python = python_rows

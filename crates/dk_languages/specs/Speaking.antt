@@ -1,4 +1,5 @@
 -- The variables of a point in a language, derived ones too.
+pub mod Forms
 use Rattle.std.specs.Prelude.{◌&&◌, ℕ, Bool, false, List, [], ◌∷◌, Option, Some, None, slice_get}
 use Rattle.dk_base.specs.declared.kinds.Form.{Form}
 use Rattle.dk_base.specs.declared.kinds.Form.TheVariants as form
@@ -8,7 +9,7 @@ use Rattle.dk_languages.specs.declared.variables.Base.{Base}
 use Rattle.dk_languages.specs.declared.fillings.Filling.{Filling}
 use Rattle.dk_languages.specs.declared.languages.Language.{Language}
 use Rattle.dk_languages.specs.declared.speaking.Spoken.{Spoken}
-use Rattle.dk_languages.specs.Forms.{end_of, presence_of, start_of, value_of}
+use Rattle.dk_languages.specs.Speaking.Forms.{end_of, presence_of, start_of, value_of}
 use Rattle.dk_languages.specs.Holes.{filled}
 
 -- ---- what a variable comes from

@@ -8,7 +8,7 @@ use Rattle.dk_forms.specs.declared.states.State.{State}
 use Rattle.dk_template.specs.declared.grammar.RowId.{RowId}
 use Rattle.dk_languages.specs.Holes.{filled}
 use Rattle.dk_languages.specs.Literals.{can_say, literals}
-use Rattle.dk_languages.specs.Numbers.{number_in, number_text}
+use Rattle.dk_languages.specs.Literals.Numbers.{number_in, number_text}
 use Rattle.dk_languages.specs.Rows.{row_in, separator_in, value_in}
 use Rattle.dk_languages.specs.Speaking.{is_spoken, spoken}
 use Rattle.dk_languages.specs.declared.variables.Base.{Base}

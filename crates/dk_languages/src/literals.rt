@@ -3,11 +3,14 @@ ghost use Rattle.std.specs.Prelude.{◌≡◌, ◌<◌, ◌++◌, IfOk, OnOk, fa
 ghost use Rattle.std.specs.Fmt.{digit_glyph, digits};
 ghost use Rattle.std.specs.List.{join_by, list_all};
 ghost use Rattle.dk_languages.specs.Literals.{c_byte, can_say, has_string, is_ascii_text, is_null, literals, octal, python_byte, python_string, smtlib_byte, string_text, truth_text};
-ghost use Rattle.dk_languages.specs.Numbers.{number_text};
+ghost use Rattle.dk_languages.specs.Literals.Numbers.{number_text};
+
+mod escapes;
+pub(crate) mod numbers;
 
 use crate::Language;
-use crate::escapes::has_known_escapes;
-use crate::numbers::push_number;
+use crate::literals::escapes::has_known_escapes;
+use crate::literals::numbers::push_number;
 use dk_base::{NoMemory, Text};
 use dk_template::State;
 

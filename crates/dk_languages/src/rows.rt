@@ -2,7 +2,11 @@
 ghost use Rattle.std.specs.Prelude.{◌≡◌, map};
 ghost use Rattle.dk_languages.specs.Rows.{is_of_elements, row_in, rows_in, separator_in, value_in};
 
-use crate::{Language, c, python, smtlib};
+mod c;
+mod python;
+mod smtlib;
+
+use crate::Language;
 use dk_template::{RowId, rows};
 
 fn rows_in(language: Language) -> &'static [&'static str]

@@ -2,8 +2,10 @@
 ghost use Rattle.std.specs.Prelude.{◌≡◌, IfOk, slice_get};
 ghost use Rattle.dk_languages.specs.Speaking.{form_at, form_fillings, index_of, is_spoken, path_in, sequence_of, size_in, spoken, told_in};
 
+mod forms;
+
 use crate::fillings::{Filling, fill};
-use crate::forms::{end_of, presence_of, start_of, value_of};
+use crate::speaking::forms::{end_of, presence_of, start_of, value_of};
 use crate::{Base, Language};
 use dk_base::{Form, List, NoMemory, Text, VarId, VarInfo};
 use std::alloc::Global;

@@ -6,8 +6,8 @@ ghost use Rattle.dk_languages.specs.Speaking.{is_spoken};
 ghost use Rattle.dk_languages.specs.Tellings.{conjunction, filling, guard, guarded, is_telling, number_filling, number_fillings, presence_text, role_fillings, roles_fillings, roles_of, row_fillings, row_text, telling, value_text, values_text, with_presence};
 
 use crate::fillings::{Filling, fill, push_filled};
+use crate::literals::numbers::{number_in, push_number};
 use crate::literals::{Literal, can_say};
-use crate::numbers::{number_in, push_number};
 use crate::rows::{row_in, separator_in, value_in};
 use crate::speaking::{Spoken, is_spoken, spoken_of};
 use crate::{Base, Language};

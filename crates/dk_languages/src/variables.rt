@@ -4,8 +4,11 @@ ghost use Rattle.std.specs.List.{list_all};
 ghost use Rattle.dk_base.specs.Shapes.{is_base_form};
 ghost use Rattle.dk_languages.specs.Bases.{base_of, bases, clash, is_clear, is_of_same, is_sayable, is_told, parameters, parameters_of, root_parameter, root_source, size_parameter, takes_size, told_base};
 
+pub(crate) mod paths;
+mod roots;
+
 use crate::Language;
-use crate::paths::{
+use crate::variables::paths::{
     has_path, inner_name, is_orig, is_sequence, path_name, push_path, push_root_text, push_size,
     root,
 };

@@ -3,7 +3,7 @@ use Rattle.std.proofs.lemmas.Result.{on_ok_weaker}
 use Rattle.std.specs.List.{join_by}
 use Rattle.dk_forms.specs.declared.states.State.{State}
 use Rattle.dk_languages.specs.Literals.{literals, string_text}
-use Rattle.dk_languages.specs.Numbers.{number_text}
+use Rattle.dk_languages.specs.Literals.Numbers.{number_text}
 use Rattle.dk_languages.specs.Rows.{separator_in}
 use Rattle.dk_languages.specs.Tellings.{value_text}
 use Rattle.dk_languages.proofs.Growing.{join_by-map}

@@ -1,8 +1,0 @@
-use Rattle.std.proofs.Common.{◌≡◌, take}
-use Rattle.std.specs.List.{fold}
-use Rattle.dk_languages.specs.Escapes.{after_escape}
-use Rattle.dk_languages.specs.declared.escapes.Escape.TheVariants.{Outside}
-use Rattle.dk_languages.proofs.escapes.behind.Given as goal
-
-abbrev pub invariant-loop-byte : goal.invariant-loop-byte
-invariant-loop-byte l = l.escape ≡ fold after_escape Outside (take l.byte-index l.bytes)

@@ -1,7 +1,0 @@
-use Rattle.std.proofs.Common.{refl}
-use Rattle.dk_languages.specs.PythonRows.{python_rows}
-use Rattle.dk_languages.proofs.python.rows.Goals as goal
-
-pub returns : goal.returns
-unfolding python_rows
-returns c = refl

@@ -1,7 +1,0 @@
-use Rattle.std.proofs.Common.{refl}
-use Rattle.dk_languages.specs.Roots.{c_keywords}
-use Rattle.dk_languages.proofs.roots.c_keywords.Goals as goal
-
-pub returns : goal.returns
-unfolding c_keywords
-returns c = refl

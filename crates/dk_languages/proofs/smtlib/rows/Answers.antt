@@ -1,7 +1,0 @@
-use Rattle.std.proofs.Common.{refl}
-use Rattle.dk_languages.specs.SmtlibRows.{smtlib_rows}
-use Rattle.dk_languages.proofs.smtlib.rows.Goals as goal
-
-pub returns : goal.returns
-unfolding smtlib_rows
-returns c = refl
