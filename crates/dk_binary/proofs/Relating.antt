@@ -7,7 +7,7 @@ use Rattle.dk_binary.specs.declared.compare.Compare.{Compare}
 use Rattle.dk_binary.specs.declared.compare.Compare.TheVariants.{Equal, Different, Less, AtMost, Multiple, Square}
 use Rattle.dk_binary.specs.declared.equality.Scalar.{Scalar}
 use Rattle.dk_binary.specs.declared.equality.Scalar.TheVariants.{Bool as BoolScalar, Hash as HashScalar, Str as StrScalar}
-use Rattle.dk_forms.specs.Line.{line_of}
+use Rattle.dk_forms.specs.Plane.Line.{line_of}
 use Rattle.dk_meanings.specs.Meanings.{meanings, relation_of, state_of}
 
 pub compare_relation : (r : Compare) (t : List Value) → relation_of (compare_row r) t ≡ relates r (int_of (value_at t 0)) (int_of (value_at t 1))

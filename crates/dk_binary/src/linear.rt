@@ -4,7 +4,7 @@ ghost use Rattle.dk_base.specs.Values.{values_of};
 ghost use Rattle.dk_base.specs.Values.Tuples.{int_of, value_at};
 ghost use Rattle.dk_base.specs.declared.kinds.Kind.TheVariants as kind;
 ghost use Rattle.dk_binary.specs.Rows.{linear_row};
-ghost use Rattle.dk_forms.specs.Line.{IsLineState, line_join, line_of};
+ghost use Rattle.dk_forms.specs.Plane.Line.{IsLineState, line_join, line_of};
 ghost use Rattle.dk_template.specs.Rows.{IsTuple};
 
 use crate::rows::join;

@@ -14,12 +14,12 @@ use Rattle.dk_base.specs.Numbers.{fits_i64}
 use Rattle.dk_base.specs.declared.kinds.Kind.{Kind}
 use Rattle.dk_base.specs.declared.values.Value.{Value}
 use Rattle.dk_forms.specs.Code.{code_of, code_state}
-use Rattle.dk_forms.specs.Distinct.{by_order, distinct, put, put_all}
+use Rattle.dk_forms.specs.Known.Distinct.{by_order, distinct, put, put_all}
 use Rattle.dk_forms.specs.Greatest.{greatest_of}
 use Rattle.dk_forms.specs.Ints.{IsIntsState, ints_of as ints_state_of, ints_state}
 use Rattle.dk_forms.specs.Known.{broken, fact}
 use Rattle.dk_forms.specs.Least.{least_of}
-use Rattle.dk_forms.specs.Line.{IsLineState}
+use Rattle.dk_forms.specs.Plane.Line.{IsLineState}
 use Rattle.dk_forms.specs.Modulus.{IsModulusState, apart, class, gcd_of_all, modulus_of, modulus_state, remainder}
 use Rattle.dk_forms.specs.Offset.{IsOffsetState}
 use Rattle.dk_forms.specs.Plain.{IsPlainState}

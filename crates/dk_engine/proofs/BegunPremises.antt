@@ -11,10 +11,10 @@ use Rattle.std.proofs.lemmas.Int.{clamps, ints as int_rules}
 use Rattle.dk_base.specs.Values.Tuples.{int_of, ints_of, value_at}
 use Rattle.dk_base.specs.declared.kinds.VarId.{VarId}
 use Rattle.dk_base.specs.declared.values.Value.{Value}
-use Rattle.dk_forms.specs.Distinct.{by_order, distinct, put}
 use Rattle.dk_forms.specs.Greatest.{greatest_of, greatest_join, greatest_known, greatest_state}
 use Rattle.dk_forms.specs.Ints.{ints_of as ints_state_of, ints_state}
 use Rattle.dk_forms.specs.Known.{Known, both, broken, fact, nothing}
+use Rattle.dk_forms.specs.Known.Distinct.{by_order, distinct, put}
 use Rattle.dk_forms.specs.Least.{least_of, least_join, least_known, least_state}
 use Rattle.dk_forms.specs.Plain.{plain_join}
 use Rattle.dk_forms.specs.declared.states.State.{State}

@@ -4,7 +4,7 @@ use Rattle.std.specs.List.{dedup, list_any}
 use Rattle.dk_base.specs.declared.kinds.VarId.{VarId}
 use Rattle.dk_base.specs.declared.values.Value.{Value}
 use Rattle.dk_base.specs.declared.values.Value.TheVariants as value
-use Rattle.dk_forms.specs.Distinct.{put}
+use Rattle.dk_forms.specs.Known.Distinct.{put}
 use Rattle.dk_forms.specs.declared.states.State.{State}
 use Rattle.dk_forms.specs.declared.states.State.TheVariants.{Empty, Broken, Holds}
 use Rattle.dk_instances.specs.Fits.{fit}

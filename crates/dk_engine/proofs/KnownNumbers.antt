@@ -12,7 +12,7 @@ use Rattle.dk_base.specs.declared.values.Value.{Value}
 use Rattle.dk_base.specs.declared.values.Value.TheVariants as value
 use Rattle.dk_instances.specs.Fits.{is_whole, tuple_in}
 use Rattle.dk_forms.specs.declared.states.State.{State}
-use Rattle.dk_forms.specs.Line.{line_join, line_of}
+use Rattle.dk_forms.specs.Plane.Line.{line_join, line_of}
 use Rattle.dk_forms.specs.declared.states.State.TheVariants.{Greatest, Holds, Least}
 use Rattle.dk_meanings.specs.Meanings.{meanings, state_of}
 use Rattle.dk_template.specs.Templates.{form_of, rows}

@@ -14,8 +14,8 @@ use Rattle.dk_base.specs.declared.values.Value.{Value}
 use Rattle.dk_base.specs.declared.values.Value.TheVariants as value
 use Rattle.dk_forms.proofs.LineStays.{straight_stays}
 use Rattle.dk_forms.proofs.PlaneStays.{plane_stays}
-use Rattle.dk_forms.specs.Line.{in_limit, is_on}
 use Rattle.dk_forms.specs.Plane.{in_space, is_in_plane}
+use Rattle.dk_forms.specs.Plane.Line.{in_limit, is_on}
 use Rattle.dk_forms.specs.declared.states.State.{State}
 use Rattle.dk_forms.specs.declared.states.State.TheVariants.{Plane, Straight}
 use Rattle.dk_instances.specs.Fits.{is_whole, tuple_in}

@@ -3,8 +3,8 @@ use Rattle.std.specs.Prelude.{◌<◌, ◌^◌, ℕ, ℤ, zero, suc, pos, negsuc
 use Rattle.std.proofs.Common.{arith}
 use Rattle.std.proofs.lemmas.Bool.{false≢true, ltb-true}
 use Rattle.dk_base.specs.Numbers.{fits_i64}
-use Rattle.dk_forms.specs.Line.{IsStraight}
 use Rattle.dk_forms.specs.Plane.{IsPlane}
+use Rattle.dk_forms.specs.Plane.Line.{IsStraight}
 use Rattle.dk_forms.specs.declared.states.State.{State}
 use Rattle.dk_forms.specs.declared.states.State.TheVariants as state
 use Rattle.dk_print.specs.Parts.{factor_at}

@@ -13,8 +13,8 @@ use Rattle.dk_base.specs.declared.kinds.VarInfo.{VarInfo}
 use Rattle.dk_base.specs.declared.values.Value.{Value}
 use Rattle.dk_base.specs.declared.values.Value.TheVariants as value
 use Rattle.dk_instances.specs.Fits.{fit}
-use Rattle.dk_forms.specs.Distinct.{put}
-use Rattle.dk_forms.specs.Line.{through}
+use Rattle.dk_forms.specs.Known.Distinct.{put}
+use Rattle.dk_forms.specs.Plane.Line.{through}
 use Rattle.dk_meanings.specs.Meanings.{meanings, state_of}
 use Rattle.dk_forms.specs.declared.states.State.TheVariants as state
 use Rattle.dk_suppress.specs.Rules.{rules}

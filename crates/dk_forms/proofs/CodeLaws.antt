@@ -4,7 +4,7 @@ use Rattle.std.proofs.Common.{sym, ap, ◌∙◌}
 use Rattle.std.proofs.lemmas.Bool.Decides.{Decides-eqb}
 use Rattle.dk_forms.specs.Known.{Known, nothing, broken, fact, both, IfFact}
 use Rattle.dk_forms.specs.Laws.{JoinLaws, SummaryLaws}
-use Rattle.dk_forms.specs.Only.{only_of, only_meet}
+use Rattle.dk_forms.specs.Known.Only.{only_of, only_meet}
 use Rattle.dk_forms.specs.Code.{IsCodeState, code_known, code_state, code_join, code_of}
 use Rattle.dk_forms.proofs.Summaries.{summary_from}
 use Rattle.dk_forms.proofs.Knowns.{laws_of_states}

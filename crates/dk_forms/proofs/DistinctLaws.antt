@@ -9,7 +9,7 @@ use Rattle.std.proofs.lemmas.Cmp.{tied_itself}
 use Rattle.std.proofs.Common.{sym, ap, ◌∙◌, subst, arith, leb, inl, inr}
 use Rattle.std.proofs.lemmas.Bool.{cases_Bool, leb-true, leb-false, lt-leb, cond-true, cond-false}
 use Rattle.dk_forms.specs.Known.{IfFact, both, broken, fact, nothing}
-use Rattle.dk_forms.specs.Distinct.{IsFew, at_most, by_order, distinct, few_meet, few_of, put, put_all}
+use Rattle.dk_forms.specs.Known.Distinct.{IsFew, at_most, by_order, distinct, few_meet, few_of, put, put_all}
 use Rattle.dk_forms.proofs.Knowns.{MeetLaws}
 
 module _ {K : Type 0} {R : K → K → Ordering} (o : IsTotalOrder R) (same : IsAntisymmetric R) where

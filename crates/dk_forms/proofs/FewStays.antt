@@ -16,7 +16,7 @@ use Rattle.std.proofs.lemmas.Slice.Eq.{bytes_eq-Decides}
 use Rattle.std.proofs.lemmas.Cmp.{int_cmp_total, nat_list_cmp_total}
 use Rattle.dk_forms.proofs.DistinctLaws.{at_most-few, at_most_cases, few_laws, put-equal, put-greater, put-less, put-nil, put_swap, put_twice}
 use Rattle.dk_forms.specs.Known.{Known, broken, fact, nothing}
-use Rattle.dk_forms.specs.Distinct.{IsFew, at_most, few_of, put, put_all}
+use Rattle.dk_forms.specs.Known.Distinct.{IsFew, at_most, few_of, put, put_all}
 use Rattle.dk_forms.specs.Ints.{ints_join, ints_known, ints_of, ints_state}
 use Rattle.dk_forms.specs.Texts.{texts_join, texts_known, texts_of, texts_state}
 use Rattle.dk_forms.specs.declared.states.State.TheVariants.{Ints, Texts}

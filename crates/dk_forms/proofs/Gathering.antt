@@ -5,7 +5,7 @@ use Rattle.std.specs.FinMap.{IsAntisymmetric}
 use Rattle.std.specs.Cmp.{IsTotalOrder}
 use Rattle.std.proofs.Common.{ap, arith, get_or}
 use Rattle.dk_forms.specs.Known.{broken}
-use Rattle.dk_forms.specs.Distinct.{put, put_all, at_most}
+use Rattle.dk_forms.specs.Known.Distinct.{put, put_all, at_most}
 use Rattle.dk_forms.proofs.DistinctLaws.{length-all_right, at_most-many}
 use Rattle.dk_forms.proofs.Putting.{put_all_on}
 

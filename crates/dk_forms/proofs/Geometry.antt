@@ -5,10 +5,10 @@ use Rattle.dk_forms.proofs.Limits.{limited_one}
 use Rattle.dk_forms.proofs.LineFacts.{line_known_of_is}
 use Rattle.dk_forms.proofs.Order.{Below, IsHullOf}
 use Rattle.dk_forms.proofs.PlaneFacts.{plane_known_of_is, point}
-use Rattle.dk_forms.specs.Geometry.{BrokenPointsHaveNoLine, BrokenPointsHaveNoPlane, Each, LinesHaveAllPoints, PlanesHaveAllPoints, PointsHaveOneLine, PointsHaveOnePlane}
 use Rattle.dk_forms.specs.Known.{Known, broken, fact, nothing}
-use Rattle.dk_forms.specs.Line.{Line, in_limit, line_known_of, line_state, spot, straight}
 use Rattle.dk_forms.specs.Plane.{Flat, in_space, plane, plane_known_of, plane_state, span}
+use Rattle.dk_forms.specs.Plane.Geometry.{BrokenPointsHaveNoLine, BrokenPointsHaveNoPlane, Each, LinesHaveAllPoints, PlanesHaveAllPoints, PointsHaveOneLine, PointsHaveOnePlane}
+use Rattle.dk_forms.specs.Plane.Line.{Line, in_limit, line_known_of, line_state, spot, straight}
 use Rattle.dk_forms.specs.declared.states.State.TheVariants.{Broken, Plane, Straight}
 
 -- ---- facts of values within a limit

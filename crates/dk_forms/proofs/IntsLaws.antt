@@ -6,7 +6,7 @@ use Rattle.std.specs.FinMap.{int_cmp-IsAntisymmetric}
 use Rattle.std.proofs.lemmas.Cmp.{int_cmp_total}
 use Rattle.dk_forms.proofs.DistinctLaws.{few_laws, few_more, few_one}
 use Rattle.dk_forms.specs.Known.{IfFact, Known, both, broken, fact, nothing}
-use Rattle.dk_forms.specs.Distinct.{IsFew, few_meet, few_of}
+use Rattle.dk_forms.specs.Known.Distinct.{IsFew, few_meet, few_of}
 use Rattle.dk_forms.specs.Ints.{IsIntsState, ints_join, ints_known, ints_of, ints_state}
 use Rattle.dk_forms.specs.Laws.{JoinLaws, SummaryLaws}
 use Rattle.dk_forms.proofs.Knowns.{laws_of_states}

@@ -7,7 +7,7 @@ use Rattle.dk_forms.proofs.Order.{Below, IsHullOf}
 use Rattle.dk_forms.specs.Known.{IfFact, Known, broken, fact, nothing}
 use Rattle.dk_forms.specs.Laws.{IsIn}
 use Rattle.dk_forms.proofs.Testing.{all_or_one}
-use Rattle.dk_forms.specs.Limited.{limited_of}
+use Rattle.dk_forms.specs.Known.Limited.{limited_of}
 
 -- what is known of points, each of which says something
 pub record IsKnownOf {F V : Type 0} (Fit : F → Type 0) (Le : F → F → Type 0) (point : V → F) (values : List V) (k : Known F) : Type 0 where

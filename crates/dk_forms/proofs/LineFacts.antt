@@ -14,7 +14,7 @@ use Rattle.dk_forms.specs.Known.{IfFact, Known, broken, fact, nothing}
 use Rattle.dk_arith.proofs.GcdLaws.{IsGcd-gcd}
 use Rattle.dk_forms.specs.Laws.{IsIn}
 use Rattle.dk_arith.specs.Directions.{IsNormal, IsNormal3, divisor}
-use Rattle.dk_forms.specs.Line.{IsSpot, IsStraight, Line, first_apart, in_limit, is_on, line_from, line_known_of, line_meet, same_line, same_point, spot, straight, through}
+use Rattle.dk_forms.specs.Plane.Line.{IsSpot, IsStraight, Line, first_apart, in_limit, is_on, line_from, line_known_of, line_meet, same_line, same_point, spot, straight, through}
 use Rattle.dk_forms.proofs.Testing.{all_or_one}
 use Rattle.dk_arith.proofs.Choice.{choice}
 use Rattle.dk_arith.specs.Gcd.{gcd}

@@ -3,7 +3,7 @@ use Rattle.std.specs.Prelude.{[], ◌≡◌, ℤ, List, ◌∷◌, refl}
 use Rattle.std.proofs.Common.{sym, ap, ◌∙◌}
 use Rattle.dk_forms.specs.Known.{IfFact, Known, both, broken, fact, nothing}
 use Rattle.dk_forms.proofs.LineFacts.{IsLine, line_hull, line_known_of_is}
-use Rattle.dk_forms.specs.Line.{IsLineState, Line, line_join, line_known, line_known_of, line_meet, line_of, line_state, spot, straight}
+use Rattle.dk_forms.specs.Plane.Line.{IsLineState, Line, line_join, line_known, line_known_of, line_meet, line_of, line_state, spot, straight}
 use Rattle.dk_forms.specs.Laws.{JoinLaws, SummaryLaws}
 use Rattle.dk_forms.proofs.Order.{laws_of_hull, more_of_hull}
 use Rattle.dk_forms.proofs.Knowns.{laws_of_states}

@@ -3,7 +3,7 @@ use Rattle.std.specs.Prelude.{◌≡◌, ℤ, pos, negsuc, neg_ℤ, ◌<ℤ◌, 
 use Rattle.std.proofs.Common.{sym, ap, ◌∙◌, subst, arith, inl, inr}
 use Rattle.std.proofs.lemmas.Int.{ints, by_lt_z}
 use Rattle.dk_forms.proofs.LineFacts.{IsLine, LineLe, On, line_hull, line_known_of_is, line_one}
-use Rattle.dk_forms.specs.Line.{IsStraight, Line, line_known_of, spot, straight}
+use Rattle.dk_forms.specs.Plane.Line.{IsStraight, Line, line_known_of, spot, straight}
 use Rattle.dk_forms.specs.Known.{broken, fact}
 use Rattle.dk_arith.specs.Gcd.{gcd}
 use Rattle.dk_arith.proofs.GcdLaws.{gcd-swap}

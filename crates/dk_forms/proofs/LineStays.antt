@@ -7,7 +7,7 @@ use Rattle.std.proofs.lemmas.Bool.{cases_Bool}
 use Rattle.dk_forms.proofs.LineFacts.{decides_limit, decides_same, line_one}
 use Rattle.dk_forms.proofs.LineLaws.{line_laws}
 use Rattle.dk_forms.specs.Known.{Known, both, broken, fact, nothing}
-use Rattle.dk_forms.specs.Line.{IsSpot, IsStraight, Line, first_apart, in_limit, is_on, line_from, line_join, line_known, line_known_of, line_meet, line_of, line_state, same_point, spot, straight, through}
+use Rattle.dk_forms.specs.Plane.Line.{IsSpot, IsStraight, Line, first_apart, in_limit, is_on, line_from, line_join, line_known, line_known_of, line_meet, line_of, line_state, same_point, spot, straight, through}
 use Rattle.dk_forms.specs.declared.states.State.{State}
 use Rattle.dk_forms.specs.declared.states.State.TheVariants.{Broken, Spot, Straight}
 

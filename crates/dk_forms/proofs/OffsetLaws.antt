@@ -6,7 +6,7 @@ use Rattle.std.proofs.Common.{sym, ap, ◌∙◌}
 use Rattle.std.proofs.lemmas.Bool.Decides.{Decides-int_eq}
 use Rattle.dk_forms.specs.Known.{Known, nothing, broken, fact, both, IfFact}
 use Rattle.dk_forms.specs.Laws.{JoinLaws, SummaryLaws}
-use Rattle.dk_forms.specs.Only.{only_meet}
+use Rattle.dk_forms.specs.Known.Only.{only_meet}
 use Rattle.dk_forms.specs.Offset.{is_difference, IsOffsetState, offset_known_of, offset_known, offset_state, offset_join, offset_of}
 use Rattle.dk_forms.proofs.Summaries.{summary_from}
 use Rattle.dk_forms.proofs.Knowns.{laws_of_states}

@@ -6,7 +6,7 @@ use Rattle.std.proofs.Common.{sym, ap, ◌∙◌, inl, inr}
 use Rattle.std.proofs.lemmas.Bool.{cases_Bool}
 use Rattle.std.proofs.lemmas.Bool.Decides.{not_from_Decides}
 use Rattle.dk_forms.specs.Known.{Known, nothing, broken, fact, both, IfFact}
-use Rattle.dk_forms.specs.Only.{only_of, only_meet}
+use Rattle.dk_forms.specs.Known.Only.{only_of, only_meet}
 use Rattle.dk_forms.proofs.Knowns.{MeetLaws}
 
 module _ {V : Type 0} (same : V → V → Bool) (decides : (x y : V) → Decides (same x y) (x ≡ y)) where

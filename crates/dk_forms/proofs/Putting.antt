@@ -7,7 +7,7 @@ use Rattle.std.specs.declared.cmp.Ordering.{Ordering}
 use Rattle.std.proofs.Common.{sym, ap, ◌∙◌, drop-cons, take-append-drop, append_assoc, add-one}
 use Rattle.std.proofs.lemmas.List.{take_more}
 use Rattle.dk_forms.proofs.DistinctLaws.{all_put, put-equal, put-greater, put-less, put-nil}
-use Rattle.dk_forms.specs.Distinct.{put, put_all}
+use Rattle.dk_forms.specs.Known.Distinct.{put, put_all}
 
 module _ {K : Type 0} {R : K → K → Ordering} (o : IsTotalOrder R) (same : IsAntisymmetric R) (d : K) where
   -- the items from i on

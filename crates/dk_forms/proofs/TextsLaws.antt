@@ -6,7 +6,7 @@ use Rattle.std.specs.Cmp.Lexicographic.{slice_cmp, nat_list_cmp_total}
 use Rattle.std.specs.FinMap.{nat_cmp-IsAntisymmetric, slice_cmp-IsAntisymmetric}
 use Rattle.dk_forms.proofs.DistinctLaws.{few_laws, few_more, few_one, put-nil}
 use Rattle.dk_forms.specs.Known.{IfFact, Known, both, broken, fact, nothing}
-use Rattle.dk_forms.specs.Distinct.{at_most, IsFew, few_meet, few_of}
+use Rattle.dk_forms.specs.Known.Distinct.{at_most, IsFew, few_meet, few_of}
 use Rattle.dk_forms.specs.Texts.{IsTextsState, texts_join, texts_known, texts_of, texts_state}
 use Rattle.dk_forms.specs.Laws.{JoinLaws, SummaryLaws}
 use Rattle.dk_forms.proofs.Knowns.{laws_of_states}

@@ -5,7 +5,7 @@ use Rattle.std.proofs.Math.Bool.{beq}
 use Rattle.std.specs.Cmp.{booleans_Decides}
 use Rattle.dk_forms.specs.Known.{Known, nothing, broken, fact, both, IfFact}
 use Rattle.dk_forms.specs.Laws.{JoinLaws, SummaryLaws}
-use Rattle.dk_forms.specs.Only.{only_of, only_meet}
+use Rattle.dk_forms.specs.Known.Only.{only_of, only_meet}
 use Rattle.dk_forms.specs.Truth.{IsTruthState, truth_known, truth_state, truth_join, truth_of}
 use Rattle.dk_forms.proofs.Summaries.{summary_from}
 use Rattle.dk_forms.proofs.Knowns.{laws_of_states}

@@ -1,7 +1,7 @@
 -- The form code: the hash code, if there is only one.
 use Rattle.std.specs.Prelude.{ℕ, nat_eq, List}
 use Rattle.dk_forms.specs.Known.{Known, nothing, broken, fact, both}
-use Rattle.dk_forms.specs.Only.{only_of, only_meet}
+use Rattle.dk_forms.specs.Known.Only.{only_of, only_meet}
 use Rattle.dk_forms.specs.declared.states.State.{State}
 use Rattle.dk_forms.specs.declared.states.State.TheVariants.{Empty, Broken, Code}
 

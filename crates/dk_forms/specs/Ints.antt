@@ -1,8 +1,8 @@
 -- The form few integers: the distinct values, ascending, if they are at most three.
 use Rattle.std.specs.Prelude.{ℤ, List}
 use Rattle.std.specs.Ordering.{int_cmp}
-use Rattle.dk_forms.specs.Distinct.{IsFew, few_meet, few_of}
 use Rattle.dk_forms.specs.Known.{Known, both, broken, fact, nothing}
+use Rattle.dk_forms.specs.Known.Distinct.{IsFew, few_meet, few_of}
 use Rattle.dk_forms.specs.declared.states.State.{State}
 use Rattle.dk_forms.specs.declared.states.State.TheVariants.{Empty, Broken, Ints}
 

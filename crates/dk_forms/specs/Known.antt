@@ -1,4 +1,8 @@
 -- What is known of some values: nothing yet, nothing that can be said, or a fact.
+pub mod Distinct
+pub mod Limited
+pub mod Only
+pub mod Place
 
 pub data Known (F : Type 0) : Type 0 where
   nothing : Known F

@@ -3,7 +3,7 @@ use Rattle.std.specs.Prelude.{◌==◌, ℤ, ◌-ℤ◌, Bool, false, if◌then�
 use Rattle.std.specs.Ordering.{int_eq}
 use Rattle.std.specs.List.{list_all}
 use Rattle.dk_forms.specs.Known.{Known, nothing, broken, fact, both}
-use Rattle.dk_forms.specs.Only.{only_meet}
+use Rattle.dk_forms.specs.Known.Only.{only_meet}
 use Rattle.dk_forms.specs.declared.states.State.{State}
 use Rattle.dk_forms.specs.declared.states.State.TheVariants.{Empty, Broken, Offset}
 

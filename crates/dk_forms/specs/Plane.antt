@@ -1,11 +1,14 @@
 -- The form plane: the stretch of a line that all points lie on, or the plane through all points.
+pub mod Geometry
+pub mod Line
+pub mod Points
 use Rattle.std.specs.Prelude.{[], ◌≡◌, ℤ, ◌+ℤ◌, ◌*ℤ◌, neg_ℤ, ◌<ℤ◌, ◌≤ℤ◌, ◌≤◌, ◌^◌, ◌⊎◌, unsigned_abs, int_div, int_lt, int_le, Bool, ◌&&◌, if◌then◌else◌, List, ◌∷◌, fold, nat_le}
 use Rattle.std.specs.Ordering.{int_eq}
 use Rattle.std.specs.List.{list_all}
 use Rattle.dk_arith.specs.Directions.{IsNormal3, divisor}
 use Rattle.dk_forms.specs.Known.{Known, both, broken, fact, nothing}
 use Rattle.dk_arith.specs.Vectors.{cross, minus}
-use Rattle.dk_forms.specs.Limited.{limited_of}
+use Rattle.dk_forms.specs.Known.Limited.{limited_of}
 use Rattle.dk_forms.specs.declared.states.State.{State}
 use Rattle.dk_forms.specs.declared.states.State.TheVariants.{Empty, Broken, Span, Plane}
 

@@ -2,8 +2,8 @@
 use Rattle.std.specs.Prelude.{ℕ, List}
 use Rattle.std.specs.Ordering.{nat_cmp}
 use Rattle.std.specs.Cmp.Lexicographic.{slice_cmp}
-use Rattle.dk_forms.specs.Distinct.{IsFew, few_meet, few_of}
 use Rattle.dk_forms.specs.Known.{Known, both, broken, fact, nothing}
+use Rattle.dk_forms.specs.Known.Distinct.{IsFew, few_meet, few_of}
 use Rattle.dk_forms.specs.declared.states.State.{State}
 use Rattle.dk_forms.specs.declared.states.State.TheVariants.{Empty, Broken, Texts}
 

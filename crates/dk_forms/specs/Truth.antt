@@ -2,7 +2,7 @@
 use Rattle.std.specs.Prelude.{Bool, List}
 use Rattle.std.proofs.Math.Bool.{beq}
 use Rattle.dk_forms.specs.Known.{Known, nothing, broken, fact, both}
-use Rattle.dk_forms.specs.Only.{only_of, only_meet}
+use Rattle.dk_forms.specs.Known.Only.{only_of, only_meet}
 use Rattle.dk_forms.specs.declared.states.State.{State}
 use Rattle.dk_forms.specs.declared.states.State.TheVariants.{Empty, Broken, Truth}
 

@@ -1,6 +1,9 @@
 // At most three whole numbers.
 ghost use Rattle.std.specs.Prelude.{◌≡◌, ◌≤◌, ◌<◌, length, insert};
 
+pub(crate) mod ints;
+pub(crate) mod texts;
+
 use smallvec::SmallVec;
 use std::alloc::Global;
 use std::marker::Model;

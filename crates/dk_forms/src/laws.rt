@@ -1,5 +1,5 @@
 //! The forms line and plane in the words of geometry.
-ghost use Rattle.dk_forms.specs.Geometry.{BrokenPointsHaveNoLine, BrokenPointsHaveNoPlane, LinesHaveAllPoints, PlanesHaveAllPoints, PointsHaveOneLine, PointsHaveOnePlane};
+ghost use Rattle.dk_forms.specs.Plane.Geometry.{BrokenPointsHaveNoLine, BrokenPointsHaveNoPlane, LinesHaveAllPoints, PlanesHaveAllPoints, PointsHaveOneLine, PointsHaveOnePlane};
 
 /// The line of points is the one on which all of them are. Where their state is Broken there is none.
 pub fn lines_go_through_all_points()

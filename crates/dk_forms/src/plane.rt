@@ -3,11 +3,14 @@ ghost use Rattle.std.specs.Prelude.{◌≡◌, ◌↔◌, ◌&&◌, ◌≤◌, �
 ghost use Rattle.dk_forms.specs.Known.{fact, both};
 ghost use Rattle.dk_arith.specs.Vectors.{minus, cross};
 ghost use Rattle.dk_forms.specs.Plane.{span, plane, plane_meet, in_space, plane_between, plane_across, first_off, is_before, lesser, greater, are_aligned, is_in_plane, plane_through, IsPoint, IsSpan, IsPlane, plane_from, IsPlaneState, plane_state, plane_known, plane_join, plane_of};
-ghost use Rattle.dk_forms.specs.Points.{triple, quadruple, direction, step, IsGap};
+ghost use Rattle.dk_forms.specs.Plane.Points.{triple, quadruple, direction, step, IsGap};
 ghost use Rattle.std.specs.List.{list_all, All};
 
+pub(crate) mod line;
+pub(crate) mod small;
+
 use crate::State;
-use crate::small::{self, Step};
+use crate::plane::small::Step;
 use dk_arith::{Direction, area, lowest, minus, value_in_space};
 
 /// A point in space.

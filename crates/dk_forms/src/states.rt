@@ -2,7 +2,7 @@
 ghost use Rattle.std.specs.Prelude.{◌≡◌, IfOk, OnErr};
 
 use crate::Few;
-use crate::texts::copies;
+use crate::few::texts::copies;
 use dk_base::{List, NoMemory, Text};
 use std::alloc::Global;
 

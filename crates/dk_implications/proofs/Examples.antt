@@ -13,8 +13,8 @@ use Rattle.dk_filters.specs.Candidates.{candidates_of}
 use Rattle.dk_filters.specs.Facts.{facts_of}
 use Rattle.dk_instances.specs.Fits.{fit}
 use Rattle.dk_instances.specs.Instances.{instances_of}
-use Rattle.dk_forms.specs.Distinct.{put}
-use Rattle.dk_forms.specs.Line.{through}
+use Rattle.dk_forms.specs.Known.Distinct.{put}
+use Rattle.dk_forms.specs.Plane.Line.{through}
 use Rattle.dk_forms.specs.Modulus.{class, remainder}
 use Rattle.dk_forms.specs.Plane.{plane_from, plane_through}
 use Rattle.dk_points.specs.Names.{method_len, role_of}

@@ -8,7 +8,7 @@ use Rattle.dk_base.specs.declared.kinds.VarId.{VarId}
 use Rattle.dk_base.specs.declared.kinds.VarInfo.{VarInfo}
 use Rattle.dk_base.specs.declared.values.Value.{Value}
 use Rattle.dk_base.specs.declared.values.Value.TheVariants as value
-use Rattle.dk_forms.specs.Line.{through}
+use Rattle.dk_forms.specs.Plane.Line.{through}
 use Rattle.dk_forms.specs.declared.states.State.TheVariants.{Empty, Broken, Holds, Greatest, Straight, Plane}
 use Rattle.dk_instances.specs.Fits.{fit, holds, premise_holds, tuples_of}
 use Rattle.dk_instances.specs.Instances.{asked_of, instances_of, tuples_over}

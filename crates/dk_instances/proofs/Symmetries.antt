@@ -16,10 +16,10 @@ use Rattle.std.proofs.lemmas.Slice.Eq.{bytes_eq-Decides}
 use Rattle.dk_base.specs.Values.Tuples.{bool_of, bools_of, hash_of, hashes_of, int_of, ints_of, text_of, texts_of, value_at}
 use Rattle.dk_base.specs.declared.values.Value.{Value}
 use Rattle.dk_forms.specs.Known.{Known, broken, fact, nothing}
-use Rattle.dk_forms.specs.Line.{Line, line_known_of, line_of, line_state, spot, straight}
 use Rattle.dk_forms.specs.Offset.{differences, offset_known_of, offset_of, offset_state}
 use Rattle.dk_forms.specs.Plain.{plain_of}
 use Rattle.dk_forms.specs.Plane.{plane_of}
+use Rattle.dk_forms.specs.Plane.Line.{Line, line_known_of, line_of, line_state, spot, straight}
 use Rattle.dk_forms.specs.declared.states.State.TheVariants.{Holds, Broken}
 use Rattle.dk_instances.proofs.Alike.{and_alike, differ_alike, equal_alike, gcd_alike, maximum_alike, minimum_alike, or_alike, pairwise_tells, product_alike, reverse_alike, sum_alike, xor_alike}
 use Rattle.dk_instances.specs.Laws.{may_exchange}

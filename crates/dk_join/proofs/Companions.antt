@@ -21,7 +21,7 @@ use Rattle.dk_forms.specs.Greatest.{greatest_known, greatest_state}
 use Rattle.dk_forms.specs.Ints.{ints_known, ints_state}
 use Rattle.dk_forms.specs.Known.{Known, both, broken, fact, nothing}
 use Rattle.dk_forms.specs.Least.{least_known, least_state}
-use Rattle.dk_forms.specs.Line.{line_known, line_state}
+use Rattle.dk_forms.specs.Plane.Line.{line_known, line_state}
 use Rattle.dk_forms.specs.Modulus.{modulus_known, modulus_state}
 use Rattle.dk_forms.specs.Offset.{offset_known, offset_state}
 use Rattle.dk_forms.specs.Plain.{plain_known, plain_state}

@@ -4,8 +4,8 @@ use Rattle.dk_arith.specs.Gcd.{gcd}
 use Rattle.dk_arith.specs.Directions.{divisor}
 use Rattle.dk_base.specs.declared.values.Value.{Value}
 use Rattle.dk_base.specs.declared.values.Value.TheVariants as value
-use Rattle.dk_forms.specs.Distinct.{put}
-use Rattle.dk_forms.specs.Line.{through}
+use Rattle.dk_forms.specs.Known.Distinct.{put}
+use Rattle.dk_forms.specs.Plane.Line.{through}
 use Rattle.dk_forms.specs.Modulus.{class, remainder}
 use Rattle.dk_forms.specs.Plane.{plane_from, plane_through}
 use Rattle.dk_forms.specs.declared.states.State.{State}

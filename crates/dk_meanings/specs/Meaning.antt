@@ -5,11 +5,11 @@ use Rattle.dk_forms.specs.Code.{code_of}
 use Rattle.dk_forms.specs.Greatest.{greatest_of}
 use Rattle.dk_forms.specs.Ints.{ints_of}
 use Rattle.dk_forms.specs.Least.{least_of}
-use Rattle.dk_forms.specs.Line.{line_of}
 use Rattle.dk_forms.specs.Modulus.{modulus_of}
 use Rattle.dk_forms.specs.Offset.{offset_of}
 use Rattle.dk_forms.specs.Plain.{plain_of}
 use Rattle.dk_forms.specs.Plane.{plane_of}
+use Rattle.dk_forms.specs.Plane.Line.{line_of}
 use Rattle.dk_forms.specs.Texts.{texts_of}
 use Rattle.dk_forms.specs.Truth.{truth_of}
 use Rattle.dk_forms.specs.declared.states.State.{State}

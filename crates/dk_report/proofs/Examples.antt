@@ -13,10 +13,10 @@ use Rattle.dk_derive.specs.Partners.{partner_with_derived}
 use Rattle.dk_derive.specs.Vars.{with_derived_vars}
 use Rattle.dk_filters.specs.Candidates.{candidates_of}
 use Rattle.dk_filters.specs.Facts.{facts_of}
-use Rattle.dk_forms.specs.Distinct.{put}
-use Rattle.dk_forms.specs.Line.{through}
+use Rattle.dk_forms.specs.Known.Distinct.{put}
 use Rattle.dk_forms.specs.Modulus.{class, remainder}
 use Rattle.dk_forms.specs.Plane.{plane_from, plane_through}
+use Rattle.dk_forms.specs.Plane.Line.{through}
 use Rattle.dk_graph.specs.Graphs.{depth_of, edges, edges_from, edges_into, links}
 use Rattle.dk_graph.specs.Names.{place_of}
 use Rattle.dk_hierarchy.specs.Samples.{OwnSamples, partners_of, samples_of}

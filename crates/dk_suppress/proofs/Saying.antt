@@ -10,7 +10,7 @@ use Rattle.std.proofs.lemmas.Bool.{and_parts, false≢true}
 use Rattle.std.proofs.lemmas.Int.{fold-int_max_bounds, fold-int_min_bounds, ints as int_rules}
 use Rattle.std.proofs.lemmas.List.Elements.{recursion_from_All}
 use Rattle.dk_base.specs.declared.values.Value.{Value}
-use Rattle.dk_forms.specs.Distinct.{by_order, distinct, put}
+use Rattle.dk_forms.specs.Known.Distinct.{by_order, distinct, put}
 use Rattle.dk_forms.specs.Known.{broken, fact}
 use Rattle.dk_forms.specs.Greatest.{greatest_of}
 use Rattle.dk_forms.specs.Ints.{ints_of, ints_state}

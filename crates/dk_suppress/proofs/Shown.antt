@@ -4,7 +4,7 @@ use Rattle.std.specs.List.{list_all}
 use Rattle.dk_base.specs.declared.kinds.VarId.{VarId}
 use Rattle.dk_base.specs.declared.values.Value.{Value}
 use Rattle.dk_base.specs.declared.values.Value.TheVariants as value
-use Rattle.dk_forms.specs.Distinct.{put}
+use Rattle.dk_forms.specs.Known.Distinct.{put}
 use Rattle.dk_instances.specs.Fits.{fit}
 use Rattle.dk_meanings.specs.Meanings.{meanings, state_of}
 use Rattle.dk_suppress.specs.Rules.{Rule, rules}

@@ -8,7 +8,7 @@ use Rattle.std.specs.Cmp.{IsTotalOrder}
 use Rattle.std.proofs.Common.{sym, ap, ◌∙◌, subst}
 use Rattle.std.proofs.lemmas.Bool.{and_parts, false≢true}
 use Rattle.dk_forms.proofs.DistinctLaws.{put-nil, put-less, put-equal, put-greater}
-use Rattle.dk_forms.specs.Distinct.{put, distinct}
+use Rattle.dk_forms.specs.Known.Distinct.{put, distinct}
 use Rattle.dk_template.specs.Ascending.{ascends}
 
 module _ {K : Type 0} {R : K → K → Ordering} (o : IsTotalOrder R) (same : IsAntisymmetric R) where

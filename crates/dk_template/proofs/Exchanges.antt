@@ -17,9 +17,9 @@ use Rattle.dk_forms.proofs.LineFacts.{IsLine, line_known_of_is}
 use Rattle.dk_forms.proofs.LineMoves.{exchanged as line_turned, line_exchanged, swap_line}
 use Rattle.dk_forms.proofs.Moves.{lift}
 use Rattle.dk_forms.specs.Known.{IfFact, Known, broken, fact, nothing}
-use Rattle.dk_forms.specs.Line.{IsLineState, IsStraight, Line, line_known_of, line_state, spot, straight}
 use Rattle.dk_forms.specs.Offset.{differences, is_difference, offset_of, offset_state}
 use Rattle.dk_forms.specs.Plane.{Flat, IsPlaneState, plane, plane_known_of, plane_state, span}
+use Rattle.dk_forms.specs.Plane.Line.{IsLineState, IsStraight, Line, line_known_of, line_state, spot, straight}
 use Rattle.dk_forms.specs.declared.states.State.{State}
 use Rattle.dk_forms.specs.declared.states.State.TheVariants as state
 use Rattle.dk_template.proofs.PlaneMoves.{fit_moved, plane_exchanged, tells_negative}

@@ -19,8 +19,8 @@ use Rattle.dk_forms.proofs.PlainLaws.{plain_laws}
 use Rattle.dk_forms.proofs.PlaneLaws.{plane_laws}
 use Rattle.dk_forms.proofs.TextsLaws.{texts_laws}
 use Rattle.dk_forms.proofs.TruthLaws.{truth_laws}
-use Rattle.dk_forms.specs.Distinct.{by_order, put, put_all, distinct}
 use Rattle.dk_forms.specs.Known.{broken, fact}
+use Rattle.dk_forms.specs.Known.Distinct.{by_order, put, put_all, distinct}
 use Rattle.dk_forms.specs.Laws.{JoinLaws}
 use Rattle.dk_forms.specs.Offset.{offset_join, offset_of, offset_state, is_difference}
 use Rattle.dk_forms.specs.Texts.{texts_join, texts_of, texts_state}

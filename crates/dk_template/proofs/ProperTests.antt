@@ -15,9 +15,9 @@ use Rattle.dk_arith.specs.Directions.{IsNormal, IsNormal3, gcd_of_three}
 use Rattle.dk_arith.specs.Gcd.{gcd}
 use Rattle.dk_base.specs.Values.Items.{is_text}
 use Rattle.dk_forms.proofs.PointOrder.{before_antisymmetric, before_or}
-use Rattle.dk_forms.specs.Distinct.{IsFew}
-use Rattle.dk_forms.specs.Line.{IsSpot, IsStraight}
+use Rattle.dk_forms.specs.Known.Distinct.{IsFew}
 use Rattle.dk_forms.specs.Plane.{Before, IsPlane, IsPoint, IsSpan, is_before}
+use Rattle.dk_forms.specs.Plane.Line.{IsSpot, IsStraight}
 use Rattle.dk_forms.specs.declared.states.State.{State}
 use Rattle.dk_forms.specs.declared.states.State.TheVariants as state
 use Rattle.dk_template.proofs.Ascents.{ascending_where_distinct, distinct_where_ascending}

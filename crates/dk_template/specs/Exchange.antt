@@ -3,8 +3,8 @@ use Rattle.std.specs.Prelude.{◌<◌, ◌^◌, unsigned_abs, ℤ, pos, neg_ℤ,
 use Rattle.dk_arith.specs.Directions.{leading}
 use Rattle.dk_base.specs.declared.kinds.VarId.{VarId}
 use Rattle.dk_forms.specs.Known.{fact}
-use Rattle.dk_forms.specs.Line.{IsStraight, Line, line_state, spot, straight}
 use Rattle.dk_forms.specs.Plane.{Flat, IsPlane, greater, lesser, plane, plane_state, span}
+use Rattle.dk_forms.specs.Plane.Line.{IsStraight, Line, line_state, spot, straight}
 use Rattle.dk_forms.specs.declared.states.State.{State}
 use Rattle.dk_forms.specs.declared.states.State.TheVariants as state
 use Rattle.dk_template.specs.Templates.{template_of}

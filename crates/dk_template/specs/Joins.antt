@@ -3,11 +3,11 @@ use Rattle.dk_forms.specs.Code.{code_join}
 use Rattle.dk_forms.specs.Greatest.{greatest_join}
 use Rattle.dk_forms.specs.Ints.{ints_join}
 use Rattle.dk_forms.specs.Least.{least_join}
-use Rattle.dk_forms.specs.Line.{line_join}
 use Rattle.dk_forms.specs.Modulus.{modulus_join}
 use Rattle.dk_forms.specs.Offset.{offset_join}
 use Rattle.dk_forms.specs.Plain.{plain_join}
 use Rattle.dk_forms.specs.Plane.{plane_join}
+use Rattle.dk_forms.specs.Plane.Line.{line_join}
 use Rattle.dk_forms.specs.Texts.{texts_join}
 use Rattle.dk_forms.specs.Truth.{truth_join}
 use Rattle.dk_forms.specs.declared.states.State.{State}

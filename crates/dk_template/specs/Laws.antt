@@ -7,9 +7,9 @@ use Rattle.dk_base.specs.declared.kinds.VarInfo.{VarInfo}
 use Rattle.dk_base.specs.declared.values.Value.{Value}
 use Rattle.dk_base.specs.declared.values.View.{View}
 use Rattle.dk_forms.specs.Laws.{JoinLaws}
-use Rattle.dk_forms.specs.Line.{line_of}
 use Rattle.dk_forms.specs.Offset.{differences, offset_of}
 use Rattle.dk_forms.specs.Plane.{plane_of}
+use Rattle.dk_forms.specs.Plane.Line.{line_of}
 use Rattle.dk_forms.specs.declared.states.State.{State}
 use Rattle.dk_forms.specs.declared.states.State.TheVariants.{Empty, Broken, Holds}
 use Rattle.dk_template.specs.Admitted.{admits, is_written}

@@ -5,11 +5,11 @@ use Rattle.dk_forms.specs.Code.{IsCodeState}
 use Rattle.dk_forms.specs.Greatest.{IsGreatestState}
 use Rattle.dk_forms.specs.Ints.{IsIntsState}
 use Rattle.dk_forms.specs.Least.{IsLeastState}
-use Rattle.dk_forms.specs.Line.{IsLineState}
 use Rattle.dk_forms.specs.Modulus.{IsModulusState}
 use Rattle.dk_forms.specs.Offset.{IsOffsetState}
 use Rattle.dk_forms.specs.Plain.{IsPlainState}
 use Rattle.dk_forms.specs.Plane.{IsPlaneState}
+use Rattle.dk_forms.specs.Plane.Line.{IsLineState}
 use Rattle.dk_forms.specs.Texts.{IsTextsState}
 use Rattle.dk_forms.specs.Truth.{IsTruthState}
 use Rattle.dk_forms.specs.declared.states.State.{State}

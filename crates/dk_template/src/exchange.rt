@@ -3,7 +3,7 @@ ghost use Rattle.std.specs.Prelude.{◌≡◌, ◌≤◌, ◌<◌, ◌^◌, ℤ,
 ghost use Rattle.dk_template.specs.Admitted.{is_written};
 ghost use Rattle.dk_arith.specs.Directions.{leading};
 ghost use Rattle.dk_forms.specs.Known.{fact};
-ghost use Rattle.dk_forms.specs.Line.{line_state, straight};
+ghost use Rattle.dk_forms.specs.Plane.Line.{line_state, straight};
 ghost use Rattle.dk_forms.specs.Plane.{plane, plane_state};
 ghost use Rattle.dk_template.specs.Exchange.{IsBounded, arrange_tuple, descends, disarrange_state, exchange as exchange_of, exchanged_back, exchanged_state, order_tuple, signed_line, signed_plane, span_between, turned_state, written_order};
 ghost use Rattle.dk_template.specs.Proper.{IsProper};

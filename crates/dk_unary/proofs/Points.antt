@@ -3,8 +3,8 @@ use Rattle.std.specs.Prelude.{◌≡◌, List, [], ◌∷◌, refl}
 use Rattle.dk_base.specs.Values.Tuples.{bool_of, hash_of, int_of, text_of, value_at}
 use Rattle.dk_base.specs.declared.values.Value.{Value}
 use Rattle.dk_forms.specs.Code.{code_of}
-use Rattle.dk_forms.specs.Distinct.{put}
 use Rattle.dk_forms.specs.Ints.{ints_of}
+use Rattle.dk_forms.specs.Known.Distinct.{put}
 use Rattle.dk_forms.specs.Modulus.{modulus_of}
 use Rattle.dk_forms.specs.Texts.{texts_of}
 use Rattle.dk_forms.specs.Truth.{truth_of}

@@ -4,7 +4,7 @@ ghost use Rattle.std.specs.Prelude.{◌≡◌, ◌≢◌, ◌∷◌, [], ◌^◌
 ghost use Rattle.dk_base.specs.Values.{values_of};
 ghost use Rattle.dk_instances.specs.Fits.{is_whole, tuple_in};
 ghost use Rattle.dk_forms.specs.Plane.{IsPlaneState, IsPoint, IsSpan, are_aligned, are_parallel, in_space, is_before, plane_join, plane_of};
-ghost use Rattle.dk_forms.specs.Points.{IsGap};
+ghost use Rattle.dk_forms.specs.Plane.Points.{IsGap};
 ghost use Rattle.dk_forms.specs.declared.states.State.TheVariants.{Broken, Span};
 ghost use Rattle.dk_template.specs.Proper.{IsProper};
 ghost use Rattle.dk_template.specs.Templates.{form_of};

@@ -1,6 +1,6 @@
 use Rattle.std.proofs.Common.{ap, ◌∙◌}
 use Rattle.std.specs.Prelude.{[], ◌∷◌}
-use Rattle.dk_forms.specs.Points.{triple}
+use Rattle.dk_forms.specs.Plane.Points.{triple}
 use Rattle.dk_forms.specs.Plane.{plane_from, plane_between, lesser, greater, plane_state}
 use Rattle.dk_forms.proofs.plane.join_spans.Goals as goal
 

@@ -3,7 +3,7 @@ use Rattle.std.specs.Int.{w128}
 use Rattle.std.proofs.lemmas.Int.{to_z-of_z}
 use Rattle.dk_arith.specs.Vectors.{minus, cross}
 use Rattle.dk_arith.proofs.Parallels.{IsZero}
-use Rattle.dk_forms.specs.Points.{triple, direction}
+use Rattle.dk_forms.specs.Plane.Points.{triple, direction}
 use Rattle.dk_forms.specs.Plane.{plane_across, plane_through, IsPlane}
 use Rattle.dk_forms.proofs.PlaneFacts.{not_aligned, through_fits}
 use Rattle.dk_arith.proofs.Registers.{lowest_kept}
