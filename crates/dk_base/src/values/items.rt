@@ -23,7 +23,7 @@ pub(crate) fn is_missing_word(text: &[u8]) -> bool
     same_bytes(text, b"nonsensical") || same_bytes(text, b"uninit") || same_bytes(text, b"missing")
 }
 
-#[tactic(auto, unfolding(crate::specs::Items::bool_item))]
+#[tactic(auto, unfolding(crate::specs::Values::Items::bool_item))]
 pub(crate) fn bool_item(text: &[u8]) -> Item<bool>
     ensures { result ≡ bool_item text.now }
 {
@@ -39,7 +39,7 @@ pub(crate) fn bool_item(text: &[u8]) -> Item<bool>
 }
 
 /// What a text that is no number is as a whole number.
-#[tactic(auto, unfolding(crate::specs::Items::int_item))]
+#[tactic(auto, unfolding(crate::specs::Values::Items::int_item))]
 fn int_word(text: &[u8]) -> Item<i64>
     ensures { item_in_range fits_i64 (whole_of text.now) ≡ Item.Bad → result ≡ int_item text.now }
 {
@@ -95,7 +95,7 @@ fn whole_code(text: &[u8]) -> Item<u64>
     }
 }
 
-#[tactic(auto, unfolding(crate::specs::Items::hash_code_of))]
+#[tactic(auto, unfolding(crate::specs::Values::Items::hash_code_of))]
 fn code(text: &[u8]) -> Item<u64>
     ensures { result ≡ item_map unsigned_abs (item_in_range fits_u64 (hash_code_of text.now)) }
 {
@@ -108,7 +108,7 @@ fn code(text: &[u8]) -> Item<u64>
 }
 
 /// What a text that is no number is as a hash code.
-#[tactic(auto, unfolding(crate::specs::Items::hash_item))]
+#[tactic(auto, unfolding(crate::specs::Values::Items::hash_item))]
 fn hash_word(text: &[u8]) -> Item<u64>
     ensures { item_map unsigned_abs (item_in_range fits_u64 (hash_code_of text.now)) ≡ Item.Bad → result ≡ hash_item text.now }
 {
@@ -147,7 +147,7 @@ fn closes_quote(text: &[u8]) -> bool
     false
 }
 
-#[tactic(auto, unfolding(crate::specs::Items::is_quoted))]
+#[tactic(auto, unfolding(crate::specs::Values::Items::is_quoted))]
 fn is_quoted(text: &[u8]) -> bool
     ensures { result ≡ is_quoted text.now }
 {
@@ -160,7 +160,7 @@ fn is_quoted(text: &[u8]) -> bool
 
 /// Whether the text writes a string: `null`, or a text from `"` to `"` in which a backslash takes the next byte with it
 /// and no other `"` and no LF stands. The words for a missing value write none.
-#[tactic(auto, unfolding(crate::specs::Items::is_text))]
+#[tactic(auto, unfolding(crate::specs::Values::Items::is_text))]
 pub fn is_text(text: &[u8]) -> bool
     ensures { result ≡ is_text text.now }
 {

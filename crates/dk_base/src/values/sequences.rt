@@ -111,7 +111,7 @@ fn read_items<'a, T: Element>(arena: &'a Arena, text: &[u8]) -> Result<Item<&'a 
     Ok(Item::Present(into_bump_slice(items)))
 }
 
-#[tactic(auto, using(crate::proofs::ReadBack::text_no_word), unfolding(crate::specs::Items::str_item))]
+#[tactic(auto, using(crate::proofs::ReadBack::text_no_word), unfolding(crate::specs::Values::Items::str_item))]
 fn str_item(text: &[u8]) -> Item<&[u8]>
     ensures { item_map (λ s. s.now) result ≡ str_item text.entry.now }
 {
@@ -155,7 +155,7 @@ fn inside(text: &[u8]) -> Option<&[u8]>
 }
 
 /// The sequence of items without text that the text writes, in the arena.
-#[tactic(auto, unfolding(crate::specs::Sequences::sequence))]
+#[tactic(auto, unfolding(crate::specs::Values::Sequences::sequence))]
 pub(crate) fn sequence<'a, T: Element>(
     arena: &'a Arena,
     text: &[u8],
@@ -172,7 +172,7 @@ pub(crate) fn sequence<'a, T: Element>(
 }
 
 /// The sequence of strings that the text writes. They are parts of one copy of it in the arena.
-#[tactic(auto, unfolding(crate::specs::Sequences::sequence))]
+#[tactic(auto, unfolding(crate::specs::Values::Sequences::sequence))]
 pub(crate) fn text_sequence<'a>(
     arena: &'a Arena,
     text: &[u8],

@@ -87,7 +87,7 @@ fn no(words: TruthWords) -> &'static [u8]
 }
 
 /// The truth value that the cell writes in this spelling.
-#[tactic(auto, unfolding(crate::specs::Cells::truth))]
+#[tactic(auto, unfolding(crate::specs::Columns::Cells::truth))]
 pub(crate) fn truth(words: TruthWords, cell: &[u8]) -> Option<bool>
     ensures { result ≡ truth words cell.now }
 {
@@ -101,7 +101,7 @@ pub(crate) fn truth(words: TruthWords, cell: &[u8]) -> Option<bool>
 }
 
 // Whether the bytes in front of a dot are a whole number as it is printed, or `-0`.
-#[tactic(auto, unfolding(crate::specs::Cells::is_front))]
+#[tactic(auto, unfolding(crate::specs::Columns::Cells::is_front))]
 fn is_front(front: &[u8]) -> bool
     ensures { result ≡ is_front front.now }
 {
@@ -109,7 +109,7 @@ fn is_front(front: &[u8]) -> bool
 }
 
 // Whether the byte at this place is the dot of a decimal.
-#[tactic(auto, unfolding(crate::specs::Cells::is_dot))]
+#[tactic(auto, unfolding(crate::specs::Columns::Cells::is_dot))]
 fn is_dot(cell: &[u8], dot: usize) -> bool
     requires { dot < length cell.now }
     ensures { result ≡ is_dot cell.now dot }
@@ -118,7 +118,7 @@ fn is_dot(cell: &[u8], dot: usize) -> bool
 }
 
 /// Where the dot of a decimal with so many places stands.
-#[tactic(auto, unfolding(crate::specs::Cells::dot_of))]
+#[tactic(auto, unfolding(crate::specs::Columns::Cells::dot_of))]
 pub(crate) fn dot_of(places: usize, cell: &[u8]) -> Option<usize>
     ensures dot { result ≡ dot_of places cell.now }
     ensures within { IfSome result (λ dot. dot < length cell.now) }
@@ -131,7 +131,7 @@ pub(crate) fn dot_of(places: usize, cell: &[u8]) -> Option<usize>
 }
 
 /// The decimal with so many places that the cell writes, times 10 to their number, within 64 bits. Its digits are put into `digits`, with its minus.
-#[tactic(auto, unfolding(crate::specs::Cells::decimal_of))]
+#[tactic(auto, unfolding(crate::specs::Columns::Cells::decimal_of))]
 pub(crate) fn decimal(
     places: u32,
     cell: &[u8],
@@ -224,7 +224,7 @@ fn push_inside(text: &mut Vec<u8>, cell: &[u8]) -> Result<(), NoMemory>
 }
 
 /// The cell between quotes, behind the text. Different cells have different texts.
-#[tactic(auto, unfolding(crate::specs::Cells::quoted))]
+#[tactic(auto, unfolding(crate::specs::Columns::Cells::quoted))]
 pub(crate) fn push_quoted(text: &mut Vec<u8>, cell: &[u8]) -> Result<(), NoMemory>
     ensures { OnOk result (text.new.items ≡ text.old.items ++ quoted cell.now) }
 {
