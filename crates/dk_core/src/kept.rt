@@ -65,7 +65,7 @@ impl Model for SessionParts {
 }
 
 // One sample more for an engine, from the values of its base variables.
-fn feed<'a>(arena: &'a Bump, engine: &mut Engine, base: &[View<'a>]) -> Result<(), NoMemory>
+fn feed<'a>(arena: &'a Bump, engine: &mut Engine, base: &'a [View<'a>]) -> Result<(), NoMemory>
     requires derived { AreWithDerived engine.old.infos }
     requires fits { FitKinds (var_kinds (base_of engine.old.infos)) (values_of base.now) }
     ensures grammar { engine.new.grammar ≡ engine.old.grammar }
