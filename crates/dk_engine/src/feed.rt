@@ -63,7 +63,7 @@ fn held_after(
 
 /// What is found that a sample changes of the slots, and whether it was asked which of them close.
 #[derive(Drop)]
-pub(crate) struct Changes {
+pub(crate) struct AskedChanges {
     asked: bool,
     all: SlotChanges,
 }
@@ -112,7 +112,7 @@ impl Engine {
 
     // What the sample makes of the slots, if that is little: it changes few, no premise is lost by them, and without a new pattern none
     // lets the least or the greatest element begin to be known. With a new pattern it is asked which slots close.
-    fn few_changes(&self, sample: &[View<'_>]) -> Result<Option<Changes>, NoMemory>
+    fn few_changes(&self, sample: &[View<'_>]) -> Result<Option<AskedChanges>, NoMemory>
         requires { IsSample self.now.infos (values_of sample.now) }
         ensures changes { IfOk result (λ o. IfSome o (λ c. AreFound (outcome c.asked (read_after self.now.kept (values_of sample.now)) (values_of sample.now)) self.now.kept.slots c.all)) }
         ensures unasked { IfOk result (λ o. IfSome o (λ c. c.asked ≡ false → IsShut (values_of sample.now) self.now.kept c.all.changes)) }
@@ -131,14 +131,14 @@ impl Engine {
                 if !new && some_may_begin(slots, all.changes.as_slice()) {
                     return Ok(None);
                 }
-                Ok(Some(Changes { asked: new, all }))
+                Ok(Some(AskedChanges { asked: new, all }))
             }
             None => Ok(None),
         }
     }
 
     // Makes the changes of the slots, where the sample splits no class and ends no constant.
-    fn change(&mut self, sample: &[View<'_>], changes: Changes) -> Result<(), NoMemory>
+    fn change(&mut self, sample: &[View<'_>], changes: AskedChanges) -> Result<(), NoMemory>
         requires sampled { IsSample self.old.infos (values_of sample.now) }
         requires turned { IsTurned self.old.kept (values_of sample.now) (unchanged_now self.old.kept) }
         requires changes { AreFound (outcome changes.asked (read_after self.old.kept (values_of sample.now)) (values_of sample.now)) self.old.kept.slots changes.all }
@@ -146,7 +146,7 @@ impl Engine {
         ensures infos { self.new.infos ≡ self.old.infos }
         ensures kept { IfOk result (λ _. self.new.kept ≡ parts_after self.old.kept.samples self.old.kept.held (values_of sample.now) (unchanged_now self.old.kept) (slots_left (outcome changes.asked (read_after self.old.kept (values_of sample.now)) (values_of sample.now)) self.old.kept.slots)) }
     {
-        let Changes { asked: _, all } = changes;
+        let AskedChanges { asked: _, all } = changes;
         let none = Presence::new(self.alloc)?;
         let leaders = self.kept.leaders.leaders();
         if let Err(lack) = self.kept.held.count_sample(leaders, sample) {
