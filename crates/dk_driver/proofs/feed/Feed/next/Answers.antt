@@ -27,15 +27,15 @@ returns-in-Ok-clause-gives g c h records stands =
     (subst (λ (r : Result (Option Event) Fault). IfSome (left_of c.args.lines.now (g.I.Inputs.rest c.args.inputs.now)) (λ xs. NextEvent c.args.self.now.events h c.args.lines.now xs (left_with_answer c.next.new.self r) c.next.new.lines (left_of c.next.new.lines (g.I.Inputs.rest c.next.new.inputs)))) is
     (c.next.ensures.gives h stands.events))
 
-pub returns-clause-fits : goal.returns-clause-fits
-returns-clause-fits g c =
+pub returns-in-None-clause-fits : goal.returns-in-None-clause-fits
+returns-in-None-clause-fits g c =
     let found : c.in_ok-event.field-0 ≡ None = search rules in
     let same : points_of c.next.new.self ≡ points_of c.args.self.now.events =
     subst (λ (o : Option Event). PointsGoOn (points_of c.args.self.now.events) o (points_of c.next.new.self)) found c.in_ok-event.ensures.points in
     subst (λ (ps : List Point). g.C.Consumer.fits c.args.self.now.consumer ps) (sym same) c.requires.fits
 
-pub returns-clause-gives : goal.returns-clause-gives
-returns-clause-gives g c h records stands =
+pub returns-in-None-clause-gives : goal.returns-in-None-clause-gives
+returns-in-None-clause-gives g c h records stands =
     let is : c.next.result ≡ Ok None = search rules in
     none_on g.C.Consumer.stands c.args.place c.args.self.now (record c.args.self.now { events = c.next.new.self }) h records c.args.lines.now c.next.new.lines _ _ refl stands
     (subst (λ (r : Result (Option Event) Fault). IfSome (left_of c.args.lines.now (g.I.Inputs.rest c.args.inputs.now)) (λ xs. NextEvent c.args.self.now.events h c.args.lines.now xs (left_with_answer c.next.new.self r) c.next.new.lines (left_of c.next.new.lines (g.I.Inputs.rest c.next.new.inputs)))) is
