@@ -7,7 +7,7 @@ use Rattle.std.proofs.lemmas.Bool.{and_parts, eqb-true, ne_eqb}
 use Rattle.csv.specs.Reading.{records, strip_bom}
 use Rattle.dk_decl.specs.declared.decls.PointDecl.{PointDecl}
 use Rattle.dk_write.specs.Texts.{Write}
-use Rattle.dk_table.specs.Tables.Placed.{Placed}
+use Rattle.dk_table.specs.Tables.PlacedRows.{Placed}
 use Rattle.dk_table.specs.Streams.{Step, Stream, all_steps, end_steps, even_step, file_steps, first_cells, first_refusal, header_steps, names_in, row_steps, rows_before, rows_steps, stream_at, stream_by, stream_with, told_steps, trace_before}
 use Rattle.dk_table.specs.Tables.{◌>>=◌, are_paired, config_by, file_rows, if_even, is_uneven, names_by, names_of, placed_from, refused, rows_in, rows_of, rows_of_all, same_cells, uneven_row}
 use Rattle.dk_table.specs.Traces.{are_named, bad_cell, declaration_of, if_told, is_told, kinds_of, trace_at, trace_by, trace_of_table, untold_row, writes_of}

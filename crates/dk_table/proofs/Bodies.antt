@@ -1,7 +1,7 @@
 -- The rows of the files, where none is refused.
 use Rattle.std.proofs.Common.{◌≡◌, ◌+◌, ◌∙◌, ◌&&◌, ◌∷◌, ◌++◌, [], ℕ, Bool, true, false, List, Option, Some, None, Result, Ok, Err, length, refl, sym, ap, if◌then◌else◌}
 use Rattle.std.specs.Prelude.{not}
-use Rattle.dk_table.specs.Tables.Placed.{Placed}
+use Rattle.dk_table.specs.Tables.PlacedRows.{Placed}
 use Rattle.dk_table.specs.Tables.{◌>>=◌, are_paired, behind_header, bodies_in, body_in, file_rows, first_of, if_even, names_of, refused, rows_in, rows_of, rows_of_all, same_cells, uneven_row}
 use Rattle.dk_table.specs.Traces.{IsJudged, declaration_of, judged, kinds_in, kinds_of, trace_at, trace_by, trace_of_table, untold_row}
 use Rattle.dk_table.specs.declared.columns.ColumnKind.{ColumnKind}

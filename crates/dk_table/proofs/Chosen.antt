@@ -3,7 +3,7 @@ use Rattle.std.proofs.Common.{◌≡◌, ◌∙◌, [], ℕ, Bool, true, false, 
 use Rattle.dk_table.specs.Tables.Cursors.{Cursor, Moves}
 use Rattle.dk_table.specs.Columns.Judging.{Judged, judging}
 use Rattle.dk_table.specs.Outcomes.{Answers}
-use Rattle.dk_table.specs.Tables.Placed.{Placed}
+use Rattle.dk_table.specs.Tables.PlacedRows.{Placed}
 use Rattle.dk_table.specs.Streams.Stages.{is_done, judging_steps, steps_by}
 use Rattle.dk_table.specs.Streams.{Step, row_steps, rows_steps}
 use Rattle.dk_table.specs.Tables.{◌>>=◌}

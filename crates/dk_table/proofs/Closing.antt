@@ -9,7 +9,7 @@ use Rattle.dk_write.specs.Texts.{trace_text}
 use Rattle.dk_table.specs.Tables.Contents.{AreReadAs, helds_of}
 use Rattle.dk_table.specs.Columns.Judging.{kind_by}
 use Rattle.dk_table.specs.Streams.Pieces.{held_rows}
-use Rattle.dk_table.specs.Tables.Placed.{Placed}
+use Rattle.dk_table.specs.Tables.PlacedRows.{Placed}
 use Rattle.dk_table.specs.Streams.Progress.{AreBehind, AreWhole, EndedSays, StreamSays, all_rows}
 use Rattle.dk_table.specs.Streams.Stages.{IsBody, IsFront}
 use Rattle.dk_table.specs.Streams.Stops.{Writes}

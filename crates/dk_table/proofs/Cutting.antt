@@ -14,7 +14,7 @@ use Rattle.csv.specs.declared.parser.Terminator.TheVariants as term
 use Rattle.dk_table.specs.Tables.Cursors.{Cursor, Moves, line_row, rows_of_bytes}
 use Rattle.dk_table.specs.Tables.Cutting.{IsCut, IsUnquoted}
 use Rattle.dk_table.specs.Tables.Marks.{IsNextEnd, ends_cell}
-use Rattle.dk_table.specs.Tables.Placed.{Placed}
+use Rattle.dk_table.specs.Tables.PlacedRows.{Placed}
 use Rattle.dk_table.specs.Tables.{are_paired, config_by, placed_from}
 use Rattle.dk_table.proofs.AllRecords.{behind_end, records_end, records_more}
 

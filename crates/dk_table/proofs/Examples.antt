@@ -23,7 +23,7 @@ use Rattle.dk_table.specs.Columns.{kind_of_column}
 use Rattle.dk_table.specs.Columns.Cells.{decimal_of, dot_of, is_dot, is_front, quoted, size_of, truth, whole}
 use Rattle.dk_table.specs.Tables.{rows_in}
 use Rattle.dk_table.specs.Tables.Marks.{ends_cell}
-use Rattle.dk_table.specs.Tables.Placed.{Placed}
+use Rattle.dk_table.specs.Tables.PlacedRows.{Placed}
 use Rattle.dk_table.specs.Traces.{any_compar, trace_by, trace_of}
 use Rattle.dk_table.specs.declared.columns.ColumnKind.TheVariants as kind
 use Rattle.dk_table.specs.declared.faults.TableWhy.TheVariants.{RowLength}

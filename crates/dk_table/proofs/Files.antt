@@ -4,7 +4,7 @@ use Rattle.std.proofs.lemmas.List.{drop_all, drop_more}
 use Rattle.dk_table.specs.Columns.Judging.{Judged, judging, judging_all, judging_rows}
 use Rattle.dk_table.specs.Outcomes.{Answers}
 use Rattle.dk_table.specs.Tables.{◌>>=◌, bodies_in, body_in, file_rows, rows_of_all}
-use Rattle.dk_table.specs.Tables.Placed.{Placed}
+use Rattle.dk_table.specs.Tables.PlacedRows.{Placed}
 use Rattle.dk_table.specs.declared.faults.Refusal.{Refusal}
 use Rattle.dk_table.specs.declared.faults.TableFault.{TableFault}
 use Rattle.dk_table.specs.declared.faults.TableFault.TheVariants.{NoMemory, Refused}

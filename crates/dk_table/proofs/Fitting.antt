@@ -9,7 +9,7 @@ use Rattle.dk_decl.specs.declared.decls.VarDecl.{VarDecl}
 use Rattle.dk_table.specs.Columns.{cell_value}
 use Rattle.dk_table.specs.Tables.Cursors.{Cursor, Moves}
 use Rattle.dk_table.specs.Writing.Forms.{all_fit, form_of, heading_of, row_fits}
-use Rattle.dk_table.specs.Tables.Placed.{Placed}
+use Rattle.dk_table.specs.Tables.PlacedRows.{Placed}
 use Rattle.dk_table.specs.Traces.{is_told, untold_row}
 use Rattle.dk_table.specs.declared.columns.ColumnKind.{ColumnKind}
 use Rattle.dk_table.specs.declared.writing.Form.{Form}

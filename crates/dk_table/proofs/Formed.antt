@@ -10,7 +10,7 @@ use Rattle.dk_write.specs.Records.{mark_text, told_lines, value_text}
 use Rattle.dk_write.specs.Texts.{Begins, Declares, Records, block_text, trace_text}
 use Rattle.dk_table.specs.Writing.Forms.{cell_lines, form_of, heading_of, row_text, rows_text}
 use Rattle.dk_table.specs.Tables.Cursors.{Cursor, Moves}
-use Rattle.dk_table.specs.Tables.Placed.{Placed}
+use Rattle.dk_table.specs.Tables.PlacedRows.{Placed}
 use Rattle.dk_table.specs.Traces.{IsPlan, declaration_of, plan_writes, record_of, records_of, value_at, var_of, writes_of}
 use Rattle.dk_table.specs.declared.columns.ColumnKind.{ColumnKind}
 use Rattle.dk_table.specs.Tables.{bodies_in}

@@ -4,7 +4,7 @@ use Rattle.std.specs.Prelude.{slice_get, unwrap_or, Option}
 use Rattle.std.proofs.lemmas.List.{get_or_default}
 use Rattle.std.proofs.lemmas.Option.{unwrap_or-slice_get}
 use Rattle.csv.specs.Records.{field_at}
-use Rattle.dk_table.specs.Tables.Placed.{Placed, cell_at}
+use Rattle.dk_table.specs.Tables.PlacedRows.{Placed, cell_at}
 
 field_get : (fields : List (List ℕ)) (i : ℕ) → field_at fields i ≡ slice_get fields i
 unfolding field_at

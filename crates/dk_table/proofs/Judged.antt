@@ -12,7 +12,7 @@ use Rattle.dk_base.specs.declared.values.Value.TheVariants as value
 use Rattle.dk_table.specs.Columns.{all_write, cell_value, first_kind, kind_of_column, written_value}
 use Rattle.dk_table.specs.Columns.Judging.{Judged, first_or_text, fresh, fresh_column, judging_all, judging_rows, kind_by, with_cell, with_row}
 use Rattle.dk_table.specs.Tables.{◌>>=◌, rows_of_all}
-use Rattle.dk_table.specs.Tables.Placed.{Placed, cell_at, cells_at}
+use Rattle.dk_table.specs.Tables.PlacedRows.{Placed, cell_at, cells_at}
 use Rattle.dk_table.specs.Traces.{is_told, judged, kinds_in, kinds_of, untold_row}
 use Rattle.dk_table.specs.declared.columns.TheConstants.{CANDIDATES}
 use Rattle.dk_table.specs.declared.columns.ColumnKind.{ColumnKind}

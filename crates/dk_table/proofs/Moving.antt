@@ -10,7 +10,7 @@ use Rattle.csv.specs.declared.parser.State.TheVariants as st
 use Rattle.csv.specs.declared.reader.Reader.{Reader}
 use Rattle.csv.proofs.ReadFacts.{rows-end, rows-more}
 use Rattle.dk_table.specs.Tables.Cursors.{Bytes, Cursor, IsReading, Moves, bytes_in, bytes_left, rows_left, rows_of_bytes}
-use Rattle.dk_table.specs.Tables.Placed.{Placed}
+use Rattle.dk_table.specs.Tables.PlacedRows.{Placed}
 use Rattle.dk_table.specs.Tables.{placed_from}
 use Rattle.dk_table.proofs.AllRecords.{few_records, placed_length, records_end, records_more, shrinks}
 

@@ -11,7 +11,7 @@ use Rattle.dk_write.specs.Texts.{trace_text}
 use Rattle.dk_table.specs.Tables.Chunks.{EndsRow}
 use Rattle.dk_table.specs.Tables.Contents.{Begins, ReadAs, helds_of}
 use Rattle.dk_table.specs.Streams.Pieces.{CutsOf, FillsSays, IsGathered, OpenSays}
-use Rattle.dk_table.specs.Tables.Placed.{Placed}
+use Rattle.dk_table.specs.Tables.PlacedRows.{Placed}
 use Rattle.dk_table.specs.Streams.Progress.{AreBehind, FileGoes, IsGoing, IsStopped, StopSays, all_rows, unopened}
 use Rattle.dk_table.specs.Streams.Stages.{IsAt, IsBehind, rows_behind}
 use Rattle.dk_table.specs.Streams.Stops.{Writes}

@@ -7,7 +7,7 @@ use Rattle.csv.specs.Reading.{records}
 use Rattle.csv.specs.declared.parser.Config.{Config}
 use Rattle.csv.specs.declared.parser.State.TheVariants as st
 use Rattle.dk_table.specs.Tables.Chunks.{EndsRow}
-use Rattle.dk_table.specs.Tables.Placed.{Placed}
+use Rattle.dk_table.specs.Tables.PlacedRows.{Placed}
 use Rattle.dk_table.specs.Tables.{are_paired, placed_from}
 use Rattle.dk_table.proofs.AllRecords.{records_end}
 use Rattle.dk_table.proofs.Chunked.{quotes_append}

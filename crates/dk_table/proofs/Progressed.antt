@@ -10,7 +10,7 @@ use Rattle.dk_write.specs.Texts.{trace_text}
 use Rattle.dk_table.specs.Tables.Chunks.{EndsRow}
 use Rattle.dk_table.specs.Tables.Contents.{AreReadAs, Begins, ReadAs, Reached, helds_of}
 use Rattle.dk_table.specs.Streams.Pieces.{IsGathered}
-use Rattle.dk_table.specs.Tables.Placed.{Placed}
+use Rattle.dk_table.specs.Tables.PlacedRows.{Placed}
 use Rattle.dk_table.specs.Streams.Progress.{AreWhole, FileGoes, HasFirst, IsWithin, StopSays, all_rows, reached_stream}
 use Rattle.dk_table.specs.Streams.Stages.{IsAt, IsBehind, rows_behind}
 use Rattle.dk_table.specs.Streams.Stops.{Writes}

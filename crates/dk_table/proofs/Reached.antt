@@ -7,7 +7,7 @@ use Rattle.dk_io.specs.Outside.{HeldFile, Untold, Absent, Holds}
 use Rattle.dk_write.specs.Texts.{trace_text}
 use Rattle.dk_table.specs.Tables.Chunks.{EndsRow}
 use Rattle.dk_table.specs.Tables.Contents.{AreReadAs, Begins, ReadAs, Reached}
-use Rattle.dk_table.specs.Tables.Placed.{Placed}
+use Rattle.dk_table.specs.Tables.PlacedRows.{Placed}
 use Rattle.dk_table.specs.Streams.Stages.{rows_behind}
 use Rattle.dk_table.specs.Streams.{Step, Stream, all_steps, end_steps, file_steps, first_cells, first_refusal, names_in, nothing, rows_steps, stream_at, stream_in, stream_with, text_rows}
 use Rattle.dk_table.specs.Tables.{are_paired, config_by, names_by, rows_in}

@@ -25,7 +25,7 @@ use Rattle.dk_write.specs.Course.{done, done_all, line_behind}
 use Rattle.dk_write.specs.Records.{Recorded, sample_at, sample_values, told_values}
 use Rattle.dk_write.specs.Texts.{Begins, Declares, Records, Write, trace_text}
 use Rattle.dk_table.specs.Laws.{HasOnly, HasTable, RowsAreSamples, row_values}
-use Rattle.dk_table.specs.Tables.Placed.{Placed}
+use Rattle.dk_table.specs.Tables.PlacedRows.{Placed}
 use Rattle.dk_table.specs.Traces.{declaration_of, judged, kinds_of, record_of, records_of, value_at, var_of, writes_of}
 use Rattle.dk_table.specs.declared.columns.ColumnKind.{ColumnKind}
 use Rattle.dk_table.proofs.Counted.{few_vars}

@@ -11,7 +11,7 @@ use Rattle.dk_write.specs.Texts.{trace_text}
 use Rattle.dk_table.specs.Columns.Judging.{Judged, fresh, kind_by}
 use Rattle.dk_table.specs.Outcomes.{Answers}
 use Rattle.dk_table.specs.Streams.Pieces.{chunk_rows, held_rows}
-use Rattle.dk_table.specs.Tables.Placed.{Placed}
+use Rattle.dk_table.specs.Tables.PlacedRows.{Placed}
 use Rattle.dk_table.specs.Streams.Stages.{Goes, IsAt, IsBegun, IsBody, IsFront, IsReady, IsBehind, IsTaken, first_names, is_done, judging_steps, rows_behind}
 use Rattle.dk_table.specs.Streams.Stops.{Writes, stop_of_fault}
 use Rattle.dk_table.specs.Writing.Forms.{form_of, rows_text}

@@ -8,7 +8,7 @@ use Rattle.dk_base.specs.declared.values.Value.{Value}
 use Rattle.dk_base.specs.declared.values.Value.TheVariants as value
 use Rattle.dk_base.specs.declared.values.View.TheVariants as view
 use Rattle.dk_table.specs.Tables.{made_name, made_names}
-use Rattle.dk_table.specs.Tables.Placed.{Placed, cell_at}
+use Rattle.dk_table.specs.Tables.PlacedRows.{Placed, cell_at}
 
 -- one cell more
 pub cells_more : (row : Placed) (i : ℕ) (cells : List (List ℕ)) → i < length row.cells → cells ≡ take i row.cells → cells ++ cell_at i row ∷ [] ≡ take (i + 1) row.cells

@@ -5,7 +5,7 @@ use Rattle.std.proofs.lemmas.Grind.{flat_map-append}
 use Rattle.std.proofs.lemmas.List.{length-take, map-append, take_all}
 use Rattle.dk_decl.specs.declared.decls.PointDecl.{PointDecl}
 use Rattle.dk_table.specs.Columns.Judging.{Judged, fresh, judging, judging_all, kind_by, with_row}
-use Rattle.dk_table.specs.Tables.Placed.{Placed}
+use Rattle.dk_table.specs.Tables.PlacedRows.{Placed}
 use Rattle.dk_table.specs.Streams.Stages.{is_done, judging_step, judging_steps}
 use Rattle.dk_table.specs.Streams.{Step, first_cells, first_refusal, nothing, nothing_but, row_steps, rows_before, rows_steps, stream_behind, stream_by, stream_known, stream_with, told_step, told_steps, trace_before}
 use Rattle.dk_table.specs.Tables.{◌>>=◌}

@@ -4,7 +4,7 @@ use Rattle.std.specs.Prelude.{find, is_none, not}
 use Rattle.dk_decl.specs.declared.decls.PointDecl.{PointDecl}
 use Rattle.dk_table.specs.Outcomes.{Answers}
 use Rattle.dk_table.specs.Tables.{refused}
-use Rattle.dk_table.specs.Tables.Placed.{Placed}
+use Rattle.dk_table.specs.Tables.PlacedRows.{Placed}
 use Rattle.dk_table.specs.Traces.{are_named, bad_cell, if_told, is_told, trace_by, untold_row, writes_of}
 use Rattle.dk_table.specs.declared.columns.ColumnKind.{ColumnKind}
 use Rattle.dk_table.specs.declared.faults.Refusal.{Refusal}

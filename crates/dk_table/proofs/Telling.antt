@@ -27,7 +27,7 @@ use Rattle.dk_write.proofs.Loops.{zip_length}
 use Rattle.dk_write.proofs.Words.{signed_bytes, signed_some}
 use Rattle.dk_table.specs.Columns.Cells.{decimal_of, dot_of, quoted, quoted_byte, truth, whole}
 use Rattle.dk_table.specs.Columns.{cell_value}
-use Rattle.dk_table.specs.Tables.Placed.{Placed}
+use Rattle.dk_table.specs.Tables.PlacedRows.{Placed}
 use Rattle.dk_table.specs.Traces.{declaration_of, empty_record, is_told, own_kind, record_of, records_of, untold_row, value_at, var_of}
 use Rattle.dk_table.specs.declared.columns.ColumnKind.{ColumnKind}
 use Rattle.dk_table.specs.declared.columns.ColumnKind.TheVariants as kind

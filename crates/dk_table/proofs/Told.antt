@@ -4,7 +4,7 @@ use Rattle.std.proofs.lemmas.Grind.{flat_map-append}
 use Rattle.dk_io.specs.Streams.{AddsFront, Texts}
 use Rattle.dk_io.specs.declared.outside.Stream.TheVariants.{Report}
 use Rattle.dk_table.specs.Writing.Forms.{row_text, rows_text}
-use Rattle.dk_table.specs.Tables.Placed.{Placed}
+use Rattle.dk_table.specs.Tables.PlacedRows.{Placed}
 use Rattle.dk_table.specs.Streams.Stages.{steps_by}
 use Rattle.dk_table.specs.Streams.Stops.{Gathers, stop_of_halt}
 use Rattle.dk_table.specs.Streams.{Step, first_refusal, row_steps, rows_before, told_steps}

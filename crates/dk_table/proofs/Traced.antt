@@ -14,7 +14,7 @@ use Rattle.dk_write.specs.Writable.{can_declare, can_record}
 use Rattle.dk_write.proofs.Written.{written_read}
 use Rattle.dk_table.specs.Columns.{kind_of_column}
 use Rattle.dk_table.specs.Laws.{HasTable, TablesAreRead}
-use Rattle.dk_table.specs.Tables.Placed.{Placed, cells_at}
+use Rattle.dk_table.specs.Tables.PlacedRows.{Placed, cells_at}
 use Rattle.dk_table.specs.Tables.{◌>>=◌, are_paired, behind_header, file_rows, first_of, if_even, is_uneven, names_of, refused, rows_in, rows_of, rows_of_all, same_cells, uneven_row}
 use Rattle.dk_table.specs.Traces.{are_named, bad_cell, declaration_of, empty_record, if_told, judged, kinds_of, records_of, trace_by, trace_of, trace_of_table, untold_row, writes_of}
 use Rattle.dk_table.specs.declared.columns.ColumnKind.{ColumnKind}

@@ -14,7 +14,7 @@ use Rattle.dk_write.specs.Course.{done_all}
 use Rattle.dk_write.specs.Texts.{Write, trace_text}
 use Rattle.dk_table.specs.Streams.{stream_at}
 use Rattle.dk_table.specs.Tables.{first_of, names_of, rows_in, rows_of_all}
-use Rattle.dk_table.specs.Tables.Placed.{Placed}
+use Rattle.dk_table.specs.Tables.PlacedRows.{Placed}
 use Rattle.dk_table.specs.Traces.{declaration_of, judged, kinds_of, trace_at, trace_of, value_at}
 use Rattle.dk_table.specs.declared.columns.ColumnKind.{ColumnKind}
 use Rattle.dk_table.specs.declared.words.command.Command.{Command}

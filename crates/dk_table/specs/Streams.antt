@@ -8,7 +8,7 @@ use Rattle.csv.specs.Reading.{records}
 use Rattle.dk_decl.specs.declared.decls.PointDecl.{PointDecl}
 use Rattle.dk_write.specs.Texts.{Write}
 use Rattle.dk_table.specs.Tables.{◌>>=◌, are_paired, config_by, is_uneven, names_by, placed_from, refused, rows_in, same_cells}
-use Rattle.dk_table.specs.Tables.Placed.{Placed}
+use Rattle.dk_table.specs.Tables.PlacedRows.{Placed}
 use Rattle.dk_table.specs.Traces.{are_named, bad_cell, declaration_of, is_told, kinds_of, records_of, writes_of}
 use Rattle.dk_table.specs.declared.columns.ColumnKind.{ColumnKind}
 use Rattle.dk_table.specs.declared.faults.Refusal.{Refusal}

@@ -4,7 +4,7 @@ pub mod Contents
 pub mod Cursors
 pub mod Cutting
 pub mod Marks
-pub mod Placed
+pub mod PlacedRows
 pub mod Sources
 use Rattle.std.specs.Prelude.{◌&&◌, ◌==◌, ◌+◌, ◌%◌, ◌++◌, ◌∷◌, [], ℕ, Bool, not, List, Option, Some, None, Result, Ok, Err, codes, count_by, drop, find, length, map, option_map, if◌then◌else◌}
 use Rattle.std.specs.Fmt.{decimal}
@@ -12,7 +12,7 @@ use Rattle.std.specs.List.{list_all, range_with_len, zip}
 use Rattle.std.specs.Str.{bytes_eq}
 use Rattle.csv.specs.Reading.{default_config, records, strip_bom}
 use Rattle.csv.specs.declared.parser.Config.{Config}
-use Rattle.dk_table.specs.Tables.Placed.{Placed}
+use Rattle.dk_table.specs.Tables.PlacedRows.{Placed}
 use Rattle.dk_table.specs.declared.faults.Refusal.{Refusal}
 use Rattle.dk_table.specs.declared.faults.TableWhy.{TableWhy}
 use Rattle.dk_table.specs.declared.faults.TableWhy.TheVariants.{NoHeader, OpenQuote, OtherHeader, RowLength}

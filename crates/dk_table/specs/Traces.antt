@@ -12,7 +12,7 @@ use Rattle.dk_write.specs.Records.{Recorded}
 use Rattle.dk_write.specs.Texts.{Begins, Declares, Records, Write}
 use Rattle.dk_write.specs.Writable.{can_declare, can_record}
 use Rattle.dk_table.specs.Columns.{cell_value, kind_of_column}
-use Rattle.dk_table.specs.Tables.Placed.{Placed, cells_at}
+use Rattle.dk_table.specs.Tables.PlacedRows.{Placed, cells_at}
 use Rattle.dk_table.specs.Tables.{◌>>=◌, bodies_in, first_of, names_of, refused, rows_in, rows_of_all}
 use Rattle.dk_table.specs.declared.words.command.Command.{Command}
 use Rattle.dk_table.specs.declared.columns.ColumnKind.{ColumnKind}

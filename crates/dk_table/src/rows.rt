@@ -3,7 +3,7 @@ ghost use Rattle.std.specs.Prelude.{◌≡◌, ◌<◌, ◌+◌, ◌^◌, IfOk, 
 ghost use Rattle.csv.specs.Reading.{records, strip_bom};
 ghost use Rattle.dk_table.specs.Tables.{body_in, config_by, placed_from, rows_in};
 ghost use Rattle.dk_table.specs.Tables.Cursors.{Moves};
-ghost use Rattle.dk_table.specs.Tables.Placed.{cell_at};
+ghost use Rattle.dk_table.specs.Tables.PlacedRows.{cell_at};
 
 pub(crate) mod lines;
 mod marks;

@@ -8,7 +8,7 @@ ghost use Rattle.dk_table.specs.Streams.{ended_stream, rows_stream};
 ghost use Rattle.dk_table.specs.Streams.Progress.{AreBehind, FileGoes, IsGoing, PieceGoes, StopSays, StreamSays, unopened};
 ghost use Rattle.dk_table.specs.Streams.Stages.{IsAt};
 ghost use Rattle.dk_table.specs.Streams.Stops.{Writes};
-ghost use Rattle.dk_table.specs.Tables.Placed.{Placed};
+ghost use Rattle.dk_table.specs.Tables.PlacedRows.{Placed};
 
 pub(crate) mod advancing;
 mod checked;

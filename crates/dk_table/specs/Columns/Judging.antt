@@ -3,7 +3,7 @@ use Rattle.std.specs.Prelude.{◌&&◌, ℕ, zero, suc, true, List, [], ◌∷�
 use Rattle.std.specs.List.{enumerate_from}
 use Rattle.dk_base.specs.Pieces.{is_empty}
 use Rattle.dk_table.specs.Columns.{cell_value}
-use Rattle.dk_table.specs.Tables.Placed.{Placed, cell_at}
+use Rattle.dk_table.specs.Tables.PlacedRows.{Placed, cell_at}
 use Rattle.dk_table.specs.Tables.{◌>>=◌}
 use Rattle.dk_table.specs.declared.columns.TheConstants.{CANDIDATES}
 use Rattle.dk_table.specs.declared.columns.ColumnKind.{ColumnKind}

@@ -4,7 +4,7 @@ use Rattle.std.specs.Io.KnownBytes.{IsAtEnd, prepend_known}
 use Rattle.csv.specs.Reading.{records, strip_bom}
 use Rattle.dk_io.specs.Outside.{HeldFile, Untold, Absent, Holds}
 use Rattle.dk_table.specs.Tables.Chunks.{EndsRow}
-use Rattle.dk_table.specs.Tables.Placed.{Placed}
+use Rattle.dk_table.specs.Tables.PlacedRows.{Placed}
 use Rattle.dk_table.specs.Tables.{config_by, placed_from}
 use Rattle.dk_table.specs.declared.streaming.held.Chunk.{Chunk}
 use Rattle.dk_table.specs.declared.streaming.filling.Cut.{Cut}

@@ -8,7 +8,7 @@ use Rattle.dk_write.specs.Texts.{trace_text}
 use Rattle.dk_table.specs.Tables.Chunks.{EndsRow}
 use Rattle.dk_table.specs.Tables.Contents.{AreReadAs, IsFrontBy, Reached, helds_of}
 use Rattle.dk_table.specs.Streams.Pieces.{IsGathered}
-use Rattle.dk_table.specs.Tables.Placed.{Placed}
+use Rattle.dk_table.specs.Tables.PlacedRows.{Placed}
 use Rattle.dk_table.specs.Streams.Stages.{IsAt}
 use Rattle.dk_table.specs.Streams.Stops.{Writes}
 use Rattle.dk_table.specs.Streams.{Stream, all_steps, rows_steps, rows_stream, stream_at, stream_in, text_rows}

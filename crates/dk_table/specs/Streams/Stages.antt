@@ -6,7 +6,7 @@ use Rattle.dk_io.specs.declared.outside.Stream.TheVariants.{Report}
 use Rattle.dk_write.specs.Texts.{trace_text}
 use Rattle.dk_table.specs.Columns.Judging.{Judged, fresh, judging, kind_by}
 use Rattle.dk_table.specs.Streams.Pieces.{held_rows}
-use Rattle.dk_table.specs.Tables.Placed.{Placed}
+use Rattle.dk_table.specs.Tables.PlacedRows.{Placed}
 use Rattle.dk_table.specs.Streams.Stops.{Writes}
 use Rattle.dk_table.specs.Streams.{Step, first_cells, first_refusal, rows_steps, rows_stream, stream_by, stream_with, told_steps}
 use Rattle.dk_table.specs.Tables.{◌>>=◌, are_paired, config_by, names_by, placed_from}

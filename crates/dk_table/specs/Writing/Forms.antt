@@ -7,7 +7,7 @@ use Rattle.dk_decl.specs.declared.decls.PointDecl.{PointDecl}
 use Rattle.dk_decl.specs.declared.decls.VarDecl.{VarDecl}
 use Rattle.dk_lines.specs.Passing.{joined}
 use Rattle.dk_table.specs.Columns.{cell_value, option_lines, value_lines}
-use Rattle.dk_table.specs.Tables.Placed.{Placed}
+use Rattle.dk_table.specs.Tables.PlacedRows.{Placed}
 use Rattle.dk_table.specs.declared.columns.ColumnKind.{ColumnKind}
 use Rattle.dk_table.specs.declared.writing.Form.{Form}
 use Rattle.dk_table.specs.declared.writing.Heading.{Heading}

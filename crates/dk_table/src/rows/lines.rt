@@ -7,7 +7,7 @@ ghost use Rattle.dk_table.specs.Tables.{config_by};
 ghost use Rattle.dk_table.specs.Tables.Cursors.{Moves, line_row, rows_of_bytes};
 ghost use Rattle.dk_table.specs.Tables.Cutting.{IsCut, IsUnquoted};
 ghost use Rattle.dk_table.specs.Tables.Marks.{AreAhead};
-ghost use Rattle.dk_table.specs.Tables.Placed.{cell_at};
+ghost use Rattle.dk_table.specs.Tables.PlacedRows.{cell_at};
 
 use crate::rows::marks::Marks;
 use dk_base::NoMemory;

@@ -3,7 +3,7 @@ ghost use Rattle.std.specs.Prelude.{◌≡◌, ◌<◌, ◌+◌, ◌^◌, ◌++�
 ghost use Rattle.csv.specs.Reading.{records, strip_bom};
 ghost use Rattle.csv.specs.Records.{fields_of};
 ghost use Rattle.dk_table.specs.Tables.{config_by, placed_from, rows_in};
-ghost use Rattle.dk_table.specs.Tables.Placed.{cell_at};
+ghost use Rattle.dk_table.specs.Tables.PlacedRows.{cell_at};
 ghost use Rattle.dk_table.specs.Tables.Cursors.{IsReading, Moves, rows_left};
 
 use csv::{ByteRecord, Reader, ReaderBuilder};
@@ -25,7 +25,7 @@ pub(crate) struct Row {
 
 impl Model for Row {
     ghost use Rattle.csv.specs.Records.{fields_of};
-    ghost use Rattle.dk_table.specs.Tables.Placed.{Placed};
+    ghost use Rattle.dk_table.specs.Tables.PlacedRows.{Placed};
 
     ghost Value = { Placed };
 

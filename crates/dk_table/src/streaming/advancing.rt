@@ -8,7 +8,7 @@ ghost use Rattle.dk_table.specs.Streams.Pieces.{chunk_rows, held_rows};
 ghost use Rattle.dk_table.specs.Streams.Stages.{Goes, IsBegun, IsBehind, IsReady, IsTaken, first_names, judging_steps, rows_behind};
 ghost use Rattle.dk_table.specs.Streams.Stops.{Writes};
 ghost use Rattle.dk_table.specs.Tables.{are_paired};
-ghost use Rattle.dk_table.specs.Tables.Placed.{Placed};
+ghost use Rattle.dk_table.specs.Tables.PlacedRows.{Placed};
 ghost use Rattle.dk_table.specs.Traces.{declaration_of};
 ghost use Rattle.dk_table.specs.declared.streaming.stages.Stage.TheVariants as stages;
 

@@ -1,6 +1,6 @@
 use Rattle.std.proofs.Common.{◌++◌, length, List}
 use Rattle.std.proofs.lemmas.Result.{err_from_is_err_and}
-use Rattle.dk_table.specs.Tables.Placed.{Placed}
+use Rattle.dk_table.specs.Tables.PlacedRows.{Placed}
 use Rattle.dk_table.specs.Streams.Progress.{all_rows}
 use Rattle.dk_table.specs.Streams.{text_rows}
 use Rattle.dk_table.specs.declared.streaming.advancing.Place.{Place}

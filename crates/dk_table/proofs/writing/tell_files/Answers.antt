@@ -5,7 +5,7 @@ use Rattle.dk_table.proofs.Fitting.{fit_parts}
 use Rattle.dk_table.proofs.Formed.{rows_apart}
 use Rattle.dk_table.proofs.Pieces.{cut_here, cut_then, told_as, told_then}
 use Rattle.dk_table.specs.Tables.{bodies_in}
-use Rattle.dk_table.specs.Tables.Placed.{Placed}
+use Rattle.dk_table.specs.Tables.PlacedRows.{Placed}
 use Rattle.dk_table.specs.Writing.Forms.{rows_text}
 use Rattle.dk_table.proofs.writing.tell_files.Goals as goal
 

@@ -8,7 +8,7 @@ use Rattle.dk_table.proofs.Formed.{plan_told}
 use Rattle.dk_table.proofs.Pieces.{wrote_last}
 use Rattle.dk_table.proofs.Rowed.{formed_of}
 use Rattle.dk_table.specs.Tables.{bodies_in}
-use Rattle.dk_table.specs.Tables.Placed.{Placed}
+use Rattle.dk_table.specs.Tables.PlacedRows.{Placed}
 use Rattle.dk_table.specs.Traces.{plan_writes}
 use Rattle.dk_table.specs.Writing.{HaltHasCause, TellsFront}
 use Rattle.dk_table.specs.Writing.Forms.{all_fit, form_of, rows_text}

@@ -3,7 +3,7 @@ use Rattle.std.proofs.lemmas.Result.{err_from_is_err_and}
 use Rattle.dk_table.proofs.Opened.{stop_recast}
 use Rattle.dk_table.proofs.Staged.{body_goes, body_stays}
 use Rattle.dk_table.specs.Streams.Pieces.{chunk_rows}
-use Rattle.dk_table.specs.Tables.Placed.{Placed}
+use Rattle.dk_table.specs.Tables.PlacedRows.{Placed}
 use Rattle.dk_table.specs.declared.streaming.advancing.Taken.{Taken}
 use Rattle.dk_table.proofs.streaming.advancing.take_body.Goals as goal
 

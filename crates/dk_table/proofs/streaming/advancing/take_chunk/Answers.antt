@@ -2,7 +2,7 @@ use Rattle.std.proofs.Common.{List}
 use Rattle.dk_table.proofs.Staged.{goes_as, goes_front}
 use Rattle.dk_table.specs.Streams.Pieces.{chunk_rows}
 use Rattle.dk_table.specs.Streams.Stages.{IsTaken}
-use Rattle.dk_table.specs.Tables.Placed.{Placed}
+use Rattle.dk_table.specs.Tables.PlacedRows.{Placed}
 use Rattle.dk_table.specs.declared.streaming.advancing.Taken.{Taken}
 use Rattle.dk_table.specs.declared.streaming.stages.Stage.TheVariants as stage
 use Rattle.dk_table.proofs.streaming.advancing.take_chunk.Goals as goal

@@ -3,7 +3,7 @@ use Rattle.std.proofs.lemmas.Result.{err_from_is_err_and}
 use Rattle.dk_table.proofs.Staged.{goes_first, goes_none, goes_unnamed}
 use Rattle.dk_table.specs.Streams.Pieces.{chunk_rows}
 use Rattle.dk_table.specs.Streams.Stages.{IsTaken, first_names}
-use Rattle.dk_table.specs.Tables.Placed.{Placed}
+use Rattle.dk_table.specs.Tables.PlacedRows.{Placed}
 use Rattle.dk_table.specs.declared.streaming.advancing.Taken.{Taken}
 use Rattle.dk_table.specs.declared.streaming.stages.Stage.TheVariants as stage
 use Rattle.dk_table.proofs.streaming.advancing.take_first.Goals as goal

@@ -4,7 +4,7 @@ use Rattle.dk_table.proofs.Staged.{held_more, ready_none, take_begun, take_fault
 use Rattle.dk_table.specs.Columns.Judging.{Judged}
 use Rattle.dk_table.specs.Streams.Pieces.{chunk_rows, held_rows}
 use Rattle.dk_table.specs.Streams.Stages.{is_done}
-use Rattle.dk_table.specs.Tables.Placed.{Placed}
+use Rattle.dk_table.specs.Tables.PlacedRows.{Placed}
 use Rattle.dk_table.specs.declared.streaming.advancing.Taken.{Taken}
 use Rattle.dk_table.specs.declared.streaming.stages.Body.{Body}
 use Rattle.dk_table.specs.declared.streaming.stages.Front.{Front}

@@ -5,7 +5,7 @@ use Rattle.dk_table.proofs.Staged.{chunk_own, goes_none, rows_stop, rows_taken}
 use Rattle.dk_table.specs.Streams.Pieces.{chunk_rows}
 use Rattle.dk_table.specs.Streams.Stages.{IsBehind, rows_behind}
 use Rattle.dk_table.specs.Tables.{config_by}
-use Rattle.dk_table.specs.Tables.Placed.{Placed}
+use Rattle.dk_table.specs.Tables.PlacedRows.{Placed}
 use Rattle.dk_table.specs.declared.streaming.advancing.Place.{Place}
 use Rattle.dk_table.specs.declared.streaming.held.Chunk.{Chunk}
 use Rattle.dk_table.proofs.streaming.advancing.take_rows.Goals as goal

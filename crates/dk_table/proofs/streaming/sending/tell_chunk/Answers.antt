@@ -4,7 +4,7 @@ use Rattle.dk_table.proofs.Sent.{halt_last, sent_last}
 use Rattle.dk_table.specs.Streams.{first_refusal, rows_before, rows_steps, told_steps}
 use Rattle.dk_table.specs.Streams.Pieces.{chunk_rows}
 use Rattle.dk_table.specs.Streams.Stops.{Gathers}
-use Rattle.dk_table.specs.Tables.Placed.{Placed}
+use Rattle.dk_table.specs.Tables.PlacedRows.{Placed}
 use Rattle.dk_table.specs.Writing.{IsTold}
 use Rattle.dk_table.specs.Writing.Forms.{rows_text}
 use Rattle.dk_table.specs.declared.faults.Refusal.{Refusal}

@@ -7,7 +7,7 @@ use Rattle.dk_table.proofs.Streamed.{steps_apart}
 use Rattle.dk_table.proofs.Told.{behind, none_ahead, parts_told, refused_ahead, still_refused}
 use Rattle.dk_table.specs.Streams.{Step, first_refusal, rows_before, rows_steps, told_steps}
 use Rattle.dk_table.specs.Streams.Pieces.{chunk_rows, held_rows}
-use Rattle.dk_table.specs.Tables.Placed.{Placed}
+use Rattle.dk_table.specs.Tables.PlacedRows.{Placed}
 use Rattle.dk_table.specs.Writing.Forms.{rows_text}
 use Rattle.dk_table.specs.declared.faults.Refusal.{Refusal}
 use Rattle.dk_table.specs.declared.streaming.held.Chunk.{Chunk}

@@ -2,7 +2,7 @@ use Rattle.std.proofs.Common.{◌≡◌, ◌<◌, ◌+◌, ◌++◌, ◌∙◌, 
 use Rattle.dk_table.proofs.Files.{bodies_more}
 use Rattle.dk_table.proofs.Taking.{found_here, found_later}
 use Rattle.dk_table.specs.Tables.{bodies_in, body_in}
-use Rattle.dk_table.specs.Tables.Placed.{Placed}
+use Rattle.dk_table.specs.Tables.PlacedRows.{Placed}
 use Rattle.dk_table.specs.Traces.{bad_cell, untold_row}
 use Rattle.dk_table.proofs.writing.traces.untold_in.Goals as goal
 

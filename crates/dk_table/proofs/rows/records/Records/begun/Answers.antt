@@ -5,7 +5,7 @@ use Rattle.csv.specs.Reading.{reader_config, strip_bom}
 use Rattle.csv.specs.Records.{fields_of}
 use Rattle.csv.specs.declared.parser.Config.{Config}
 use Rattle.dk_table.specs.Tables.Cursors.{bytes_left}
-use Rattle.dk_table.specs.Tables.Placed.{Placed}
+use Rattle.dk_table.specs.Tables.PlacedRows.{Placed}
 use Rattle.dk_table.specs.Tables.{config_by}
 use Rattle.dk_table.proofs.Moving.{all_left, all_numbered}
 use Rattle.dk_table.proofs.rows.records.Records.begun.Goals as goal

@@ -1,6 +1,6 @@
 use Rattle.std.proofs.Common.{ap}
 use Rattle.csv.specs.Records.{fields_of}
-use Rattle.dk_table.specs.Tables.Placed.{Placed}
+use Rattle.dk_table.specs.Tables.PlacedRows.{Placed}
 use Rattle.dk_table.proofs.Getting.{cell_got}
 use Rattle.dk_table.proofs.rows.records.Row.cell.Goals as goal
 

@@ -1,7 +1,7 @@
 use Rattle.std.proofs.Common.{◌≡◌, ◌∙◌, [], arith, inl, List, subst, sym, true, ℕ}
 use Rattle.csv.specs.Records.{fields_of}
 use Rattle.dk_table.specs.Tables.Cursors.{Cursor, IsReading, Moves, rows_left}
-use Rattle.dk_table.specs.Tables.Placed.{Placed}
+use Rattle.dk_table.specs.Tables.PlacedRows.{Placed}
 use Rattle.dk_table.proofs.Moving.{moves, next_fits, next_row, none_left, still_between, still_numbered}
 use Rattle.dk_table.proofs.rows.records.Row.read.Goals as goal
 
