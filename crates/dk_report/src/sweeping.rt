@@ -1,5 +1,6 @@
 // The candidates of a point, row by row over all tuples of variables that may stand in what is kept.
-ghost use Rattle.std.specs.Prelude.{◌≡◌, ◌≤◌, ◌^◌, ◌<◌, ◌++◌, IfOk, length};
+ghost use Rattle.std.specs.Prelude.{◌≡◌, ◌≤◌, ◌^◌, ◌<◌, ◌++◌, IfOk, filter, length};
+ghost use Rattle.dk_engine.specs.Sweeps.Suited.{suited_vars};
 ghost use Rattle.dk_filters.specs.Candidates.{candidates_kept, candidates_of};
 ghost use Rattle.dk_report.specs.Keeping.{keeps};
 ghost use Rattle.dk_report.specs.Asked.{AreStanding, CanBeAsked, candidates_equal, candidates_over, candidates_standing, has_enough, here_of, listed_candidates_by, vars_for_row, vars_with_enough, views_of};

@@ -1,5 +1,5 @@
 -- What reading one file comes to: what the session was fed, and beside it what was written.
-use Rattle.std.specs.Prelude.{◌≡◌, ◌++◌, ℕ, List, [], length, Option, Some, Result, Ok, Err}
+use Rattle.std.specs.Prelude.{◌≡◌, ◌++◌, ℕ, false, List, [], length, Option, Some, Result, Ok, Err}
 use Rattle.std.specs.Io.{StartsWith}
 use Rattle.dk_base.specs.declared.faults.Fault.{Fault}
 use Rattle.dk_base.specs.declared.faults.Fault.TheVariants as fault
