@@ -44,7 +44,7 @@ groups_going ignores place h n room (Last ls (Over line)) few own ended going e 
     by (Err fault) gives is e = absurd (cc e)
 
 file_going : (ignores : Bool) (room place : ℕ) (h n : History) (content : List ℕ) → room ≤ total_limit → IsGoing h → (trail_of_file ignores room h place (ended_file content)).end ≡ Ok n → IsGoing n
-file_going ignores room h n content few going e =
+file_going ignores room place h n content few going e =
     groups_going ignores place h n room (groups_of (lined line_limit room 0 true content)) (omega (arith, few)) (file_spelled line_limit room 0 true content (omega (arith, few))) (file_ends line_limit room 0 content) going e
 
 -- between two files

@@ -13,11 +13,11 @@ use Rattle.dk_core.specs.Standing.{blocks_of}
 use Rattle.dk_core.specs.declared.session.Session.{Session}
 use Rattle.dk_command_line.specs.declared.command.Command.{Command}
 use Rattle.dk_driver.proofs.Running.{held_map, read_none, read_on, refused_on, rest_next, rose_since, short_on, unread_on, unstarted_on}
-use Rattle.dk_driver.specs.Files.{file_name_at}
+use Rattle.dk_driver.specs.Files.{ended_file, file_name_at}
 use Rattle.dk_driver.specs.Reads.{held_file_at, rest_behind}
-use Rattle.dk_driver.specs.Trails.{Outset, Step}
+use Rattle.dk_driver.specs.Trails.{Outset, Step, trail_of}
 use Rattle.dk_driver.specs.WholeFile.{ComesToEnd, HasFault, IsShort}
-use Rattle.dk_run.specs.AllFiles.{AreReadTo, FilesTroubleGives, HasBrokenAt, files_trouble}
+use Rattle.dk_run.specs.AllFiles.{AreReadTo, FilesTroubleGives, HasBrokenAt, IsShortTo, files_trouble}
 use Rattle.dk_run.specs.Commands.{file_names, generated_count, helds_of}
 use Rattle.dk_run.specs.Courses.{line_limit}
 use Rattle.dk_run.specs.Beginning.{BeginsFrom}
@@ -157,6 +157,15 @@ first_there command file n e absent = let holds = first_held command file n e in
 
 first_text : (command : Command) (file : List ℕ → HeldFile) (n : ℕ) (text xs : List ℕ) → command.generate ≡ Some n → text ≡ generated_text n → held_file_at (helds_of command file) 0 ≡ Holds xs → text ≡ xs
 first_text command file n text xs e is holds = let first = first_held command file n e in cc (first, holds, is)
+
+-- where nothing was written, it is a front of what is due of any files
+pub nothing_short : (command : Command) (file : List ℕ → HeldFile) → IsShortTo command file []
+nothing_short command file = record {
+  place = 0;
+  there = λ k h. absurd (omega arith);
+  short = λ start begins contents held files.
+      ([], (trail_of start command.ignore_missing_entry (map ended_file contents ++ files)).steps, (λ begun. refl), refl);
+}
 
 -- no file was read yet
 begun_behind : {F : Type 0} (command : Command) (file : List ℕ → HeldFile) (s : Session F) (room : ℕ) (start : Outset) → BeginsFrom command file s room start → blocks_of s ≡ 0

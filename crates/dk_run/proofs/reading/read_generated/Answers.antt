@@ -2,7 +2,7 @@ use Rattle.std.proofs.Common.{rules, sym, [], subst}
 use Rattle.dk_io.specs.declared.outside.Stream.TheVariants.{Report}
 use Rattle.dk_run.specs.AllFiles.{FilesTroubleGives}
 use Rattle.dk_run.specs.declared.reading.FilesTrouble.{FilesTrouble}
-use Rattle.dk_run.proofs.Placing.{generated_on, generated_trouble, none_generated}
+use Rattle.dk_run.proofs.Placing.{generated_on, generated_trouble, none_generated, nothing_short}
 use Rattle.dk_run.proofs.Writing.{added_nothing}
 use Rattle.dk_run.proofs.reading.read_generated.Goals as goal
 
@@ -33,3 +33,6 @@ returns-in-Err-read_text-clause-gives g c =
           (generated_trouble c.args.command.now file before c.args.session c.args.lines.now c.read_text.new.lines c.in-Some.n c.in-Ok.text told.text
           c.in-Some.is c.in-Ok.ensures c.requires.limits stands c.requires.counts c.in-Err-read_text.trouble c.in-Err-read_text.ensures.steady (λ start h steps behind. told.holds file start [] h steps behind));
     }
+
+pub returns-in-Err-clause-gives : goal.returns-in-Err-clause-gives
+returns-in-Err-clause-gives g c = record { text = []; written = sym (added_nothing _ Report); holds = λ file before stands. nothing_short c.args.command.now file }
