@@ -1,5 +1,6 @@
 -- What a session stands for.
 use Rattle.std.specs.Prelude.{◌≡◌, ℕ, Bool, List}
+use Rattle.dk_engine.specs.Reading.Levels.{Whole}
 use Rattle.dk_hierarchy.specs.Samples.{own_samples_of}
 use Rattle.dk_hierarchy.specs.Standing.{EnginesStandFor}
 use Rattle.dk_points.specs.Table.{Point}
@@ -47,6 +48,10 @@ blocks_of s = s.blocks
 
 abbrev pub file_of : {F : Type 0} → Session F → ℕ
 file_of s = file_in s.kept.reader
+
+-- the engines of its points
+abbrev pub engines_of : {F : Type 0} → Session F → List Whole
+engines_of s = s.kept.engines
 
 -- the grammar of its engines
 abbrev pub grammar_of : {F : Type 0} → Session F → Grammar

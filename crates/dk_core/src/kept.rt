@@ -12,6 +12,7 @@ ghost use Rattle.dk_decl.specs.Headers.{is_implicit};
 ghost use Rattle.dk_derive.specs.Laws.{base_of, var_kinds};
 ghost use Rattle.dk_derive.specs.Values.{values_by_form};
 ghost use Rattle.dk_hierarchy.specs.Samples.{own_samples_of};
+ghost use Rattle.dk_hierarchy.specs.Shortcuts.{AreShortcuts};
 ghost use Rattle.dk_hierarchy.specs.Standing.{AreEnginesOf, EngineStandsFor};
 ghost use Rattle.dk_io.specs.Outside.{Rose};
 ghost use Rattle.dk_lines.specs.Reading.{left_of};
@@ -30,11 +31,11 @@ use dk_blocks::{Found, Reader};
 use dk_decl::PointDecl;
 use dk_derive::extend;
 use dk_engine::Engine;
-use dk_hierarchy::{engine_of, have_samples};
+use dk_hierarchy::{Shortcut, engine_of, have_samples, shortcuts};
 use dk_io::Inputs;
 use dk_lines::Lines;
 use dk_points::Points;
-use dk_report::{Options, push_section, push_stats};
+use dk_report::{Options, push_section, push_section_by, push_stats};
 use dk_state::{Loaded, push_saved};
 use dk_template::Grammar;
 use std::alloc::Global;
@@ -262,6 +263,13 @@ impl SessionParts {
         have_samples(self.alloc, self.reader.points(), self.engines.as_slice())
     }
 
+    /// The shortcuts of its points.
+    pub(crate) fn shortcuts(&self) -> Result<Vec<Shortcut>, NoMemory>
+        ensures { IfOk result (λ found. AreShortcuts (points_in self.now.reader) self.now.engines found.items) }
+    {
+        shortcuts(self.alloc, self.reader.points(), self.engines.as_slice())
+    }
+
     /// Writes the point's section behind the text, whatever its name: whether it has samples.
     pub(crate) fn push_section(
         &self,
@@ -279,6 +287,30 @@ impl SessionParts {
             options,
             self.reader.points(),
             self.engines.as_slice(),
+            p,
+        )
+    }
+
+    /// The same by shortcuts.
+    pub(crate) fn push_section_by(
+        &self,
+        text: &mut Text,
+        options: &Options,
+        shortcuts: &[Shortcut],
+        p: PointId,
+    ) -> Result<bool, NoMemory>
+        requires point { p.0 < length (points_in self.now.reader) }
+        requires shortcuts { AreShortcuts (points_in self.now.reader) self.now.engines shortcuts.now }
+        ensures has { (h : History) → Stands self.now h → IfOk result (λ has. has ≡ has_samples h p.0) }
+        ensures text { (h : History) → Stands self.now h → IfOk result (λ _. text.new ≡ text.old ++ section_in h.grammar options.now h.table h.samples p.0) }
+    {
+        push_section_by(
+            self.alloc,
+            text,
+            options,
+            self.reader.points(),
+            self.engines.as_slice(),
+            shortcuts,
             p,
         )
     }

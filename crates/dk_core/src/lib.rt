@@ -5,6 +5,7 @@ mod kept;
 pub mod laws;
 mod session;
 
+pub use dk_hierarchy::Shortcut;
 pub use dk_report::Options;
 pub use dk_state::LoadFault;
 pub use session::Session;

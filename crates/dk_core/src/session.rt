@@ -4,6 +4,7 @@ ghost use Rattle.dk_blocks.specs.History.{History, no_history, file_ended};
 ghost use Rattle.dk_blocks.specs.Standing.{IsBetweenFiles};
 ghost use Rattle.dk_decl.specs.Headers.{is_implicit};
 ghost use Rattle.dk_hierarchy.specs.Samples.{own_samples_of};
+ghost use Rattle.dk_hierarchy.specs.Shortcuts.{AreShortcuts};
 ghost use Rattle.dk_hierarchy.specs.Standing.{AreEnginesOf, EngineStandsFor};
 ghost use Rattle.dk_io.specs.Outside.{Rose};
 ghost use Rattle.dk_lines.specs.Reading.{left_of};
@@ -12,12 +13,13 @@ ghost use Rattle.dk_state.specs.Spelling.{IsOwnTable, IsSpelling};
 ghost use Rattle.dk_core.specs.Resuming.{HasTableOfState, IsOfLoaded, IsStart, state_file};
 ghost use Rattle.dk_core.specs.Sections.{has_own_samples, has_section, have_samples, section_of, some_if, stats_of};
 ghost use Rattle.dk_core.specs.Selecting.{SelectsBy};
-ghost use Rattle.dk_core.specs.Standing.{ReportsAlike, SessionReadsFor, SessionStandsFor, blocks_of, file_of, grammar_of, left_with_answer, options_of, over_of, points_of, saved_of, select_of};
+ghost use Rattle.dk_core.specs.Standing.{ReportsAlike, SessionReadsFor, SessionStandsFor, blocks_of, engines_of, file_of, grammar_of, left_with_answer, options_of, over_of, points_of, saved_of, select_of};
 ghost use Rattle.dk_core.specs.Steps.{NextBlock, SessionCounts};
 
 use crate::kept::SessionParts;
 use dk_base::{Fault, NoMemory, PointId, Text};
 use dk_engine::Engine;
+use dk_hierarchy::Shortcut;
 use dk_io::Inputs;
 use dk_lines::Lines;
 use dk_points::Points;
@@ -193,6 +195,13 @@ impl<F: Fn(&[u8]) -> bool + Drop> Session<F> {
         self.kept.have_samples()
     }
 
+    /// The shortcuts of its points, by which sections go down. They hold until the next block.
+    pub fn shortcuts(&self) -> Result<Vec<Shortcut>, NoMemory>
+        ensures { IfOk result (λ found. AreShortcuts (points_of self.now) (engines_of self.now) found.items) }
+    {
+        self.kept.shortcuts()
+    }
+
     /// Writes the point's section behind the text: whether it has one. It has none without samples, or where its name isn't selected.
     /// After an error the text may hold a part of it.
     pub fn push_section(&self, text: &mut Text, p: PointId) -> Result<bool, NoMemory>
@@ -206,6 +215,26 @@ impl<F: Fn(&[u8]) -> bool + Drop> Session<F> {
             return Ok(false);
         }
         self.kept.push_section(text, &self.options, p)
+    }
+
+    /// The same by the shortcuts of its points, which are found once for the sections of a report.
+    pub fn push_section_by(
+        &self,
+        text: &mut Text,
+        shortcuts: &[Shortcut],
+        p: PointId,
+    ) -> Result<bool, NoMemory>
+        requires within { p.0 < length (points_of self.now) }
+        requires shortcuts { AreShortcuts (points_of self.now) (engines_of self.now) shortcuts.now }
+        requires callable { F.IsAlwaysCallable (select_of self.now) }
+        ensures has { (h : History) → SessionStandsFor self.now h → (selects : List ℕ → Bool) → SelectsBy (F.post (select_of self.now)) selects → IfOk result (λ has. has ≡ has_section selects h p.0) }
+        ensures text { (h : History) → SessionStandsFor self.now h → (selects : List ℕ → Bool) → SelectsBy (F.post (select_of self.now)) selects
+            → IfOk result (λ _. text.new ≡ text.old ++ section_of (options_of self.now) selects h p.0) }
+    {
+        if !(self.select)(self.kept.points().name(p)) {
+            return Ok(false);
+        }
+        self.kept.push_section_by(text, &self.options, shortcuts, p)
     }
 
     /// The point's section; none without samples, or where its name isn't selected.

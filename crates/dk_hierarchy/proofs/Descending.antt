@@ -1,5 +1,5 @@
 -- Going down from a point, way by way.
-use Rattle.std.specs.Prelude.{◌≡◌, ◌<◌, ◌++◌, ℕ, All, List, [], ◌∷◌, flat_map, length, map}
+use Rattle.std.specs.Prelude.{◌≡◌, ◌<◌, ◌++◌, ℕ, All, List, [], ◌∷◌, flat_map, length, map, Option, refl}
 use Rattle.std.proofs.Common.{◌∙◌, ap, arith, subst, sym}
 use Rattle.std.proofs.lemmas.List.{append-nil, append_assoc}
 use Rattle.std.proofs.lemmas.List.Elements.{All-append, All-cons, All-head, All-nil, All-tail}
@@ -14,6 +14,7 @@ use Rattle.dk_hierarchy.proofs.Telling.{Samples, same_append, same_as, same_behi
 use Rattle.dk_hierarchy.specs.Edges.{ArePartners}
 use Rattle.dk_hierarchy.specs.Descent.{IsDescent, IsWayDown, first_way, own_partners}
 use Rattle.dk_hierarchy.specs.Samples.{OwnSamples, all_vars_of, mapped_sample, own_samples_of, partners_of, samples_of}
+use Rattle.dk_hierarchy.specs.Shortcuts.{IsDescentBy, ShortcutsHold}
 use Rattle.dk_hierarchy.specs.Ways.{SamplesTellTheSame, repeated_samples, samples_through, samples_through_all, way_below, with_paths}
 use Rattle.dk_hierarchy.specs.declared.way.Way.{Way}
 
@@ -34,7 +35,7 @@ module _ (ps : List Point) (p : ℕ) where
   }
 
   -- ---- one of the ways that are left is done
-  module _ (ways before after : List Way) (way : Way) (is : IsDescent ps p ways (before ++ way ∷ after)) where
+  module _ (shortcuts : List (Option Way)) (ways before after : List Way) (way : Way) (is : IsDescentBy ps shortcuts p ways (before ++ way ∷ after)) where
     behind : All (IsWayDown ps p) (way ∷ after)
     behind = (all_parts (IsWayDown ps p) before (way ∷ after) is.pending).1
 
@@ -48,9 +49,9 @@ module _ (ps : List Point) (p : ℕ) where
     es = edges_into (nodes ps) way.point.0
 
     module _ (deep : ParentsAreDeeper (nodes ps)) (left : List Way) (left_are : All (IsWayDown ps p) left)
-        (left_brings : (samples : ℕ → Samples) → SamplesTellTheSame (samples_through_all samples left)
-        (samples_through_all samples (before ++ after) ++ flat_map (λ e. samples_through samples (way_below ps way e)) es)) where
-      module _ (own : OwnSamples) where
+        (left_brings : (own : OwnSamples) → ShortcutsHold ps own shortcuts → SamplesTellTheSame (samples_through_all (samples_of ps own) left)
+        (samples_through_all (samples_of ps own) (before ++ after) ++ flat_map (λ e. samples_through (samples_of ps own) (way_below ps way e)) es)) where
+      module _ (own : OwnSamples) (hold : ShortcutsHold ps own shortcuts) where
         abbrev all : ℕ → Samples
         all = samples_of ps own
 
@@ -103,23 +104,23 @@ module _ (ps : List Point) (p : ℕ) where
             (same_trans ((others ++ of_way) ++ next) ((others ++ next) ++ of_way) (of_way ++ now)
             (same_inner others of_way next)
             (same_trans ((others ++ next) ++ of_way) (now ++ of_way) (of_way ++ now)
-            (same_append (others ++ next) now of_way of_way (same_sym now (others ++ next) (left_brings all)) (same_refl of_way))
+            (same_append (others ++ next) now of_way of_way (same_sym now (others ++ next) (left_brings own hold)) (same_refl of_way))
             (same_swap now of_way)))))
 
         brings : SamplesTellTheSame (samples_of ps own p) (samples_through_all owns (ways ++ way ∷ []) ++ now)
         brings =
-            same_trans (samples_of ps own p) (done ++ was) (samples_through_all owns (ways ++ way ∷ []) ++ now) (is.brings own)
+            same_trans (samples_of ps own p) (done ++ was) (samples_through_all owns (ways ++ way ∷ []) ++ now) (is.brings own hold)
             (same_trans (done ++ was) (done ++ (of_way ++ now)) (samples_through_all owns (ways ++ way ∷ []) ++ now)
             (same_behind done was (of_way ++ now) moved)
             (same_as (done ++ (of_way ++ now)) (samples_through_all owns (ways ++ way ∷ []) ++ now)
             (sym (append_assoc done of_way now)
             ∙ ap (λ xs. xs ++ now) (ap (λ xs. done ++ xs) (sym (append-nil of_way)) ∙ sym (through_append owns ways (way ∷ []))))))
 
-      pub way_done : IsDescent ps p (ways ++ way ∷ []) left
+      pub way_done : IsDescentBy ps shortcuts p (ways ++ way ∷ []) left
       way_done = record {
         done = All-append (IsWayDown ps p) ways (way ∷ []) is.done (All-cons (IsWayDown ps p) way [] way_is (All-nil (IsWayDown ps p)));
         pending = left_are;
-        brings = λ own. brings own;
+        brings = λ own hold. brings own hold;
       }
 
   -- ---- the first way
@@ -137,3 +138,10 @@ module _ (ps : List Point) (p : ℕ) where
         ∙ (append-nil (map (mapped_sample (own_partners (length (all_vars_of ps p)))) (samples_of ps own p))
         ∙ all_mapped_own (length (all_vars_of ps p)) (samples_of ps own p) (all_variables ps own p))));
   }
+
+  -- ---- without shortcuts, and with some
+  pub by_any : (shortcuts : List (Option Way)) (ways left : List Way) → IsDescent ps p ways left → IsDescentBy ps shortcuts p ways left
+  by_any shortcuts ways left is = record { done = is.done; pending = is.pending; brings = λ own hold. is.brings own }
+
+  pub by_none : (ways left : List Way) → IsDescentBy ps [] p ways left → IsDescent ps p ways left
+  by_none ways left is = record { done = is.done; pending = is.pending; brings = λ own. is.brings own (λ q. refl) }

@@ -9,6 +9,8 @@ pub mod MoreWays
 pub mod Ranks
 pub mod Descending
 pub mod Going
+pub mod Shortening
+pub mod Passing
 pub mod WayExamples
 mod HierarchyExamples
 pub mod Merging

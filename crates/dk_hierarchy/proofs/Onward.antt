@@ -57,7 +57,7 @@ mapped_onward below (None ∷ partners) s = ap (λ xs. value.Missing ∷ xs) (ma
 mapped_onward below (Some w ∷ partners) s =
     ap (λ x. x ∷ mapped_sample (partners_below below partners) s) (sym (value-through below s w)) ∙ ap (λ xs. value_in (mapped_sample below s) w ∷ xs) (mapped_onward below partners s)
 
-all_mapped_onward : (below partners : List (Option VarId)) (samples : Samples) → map (mapped_sample (partners_below below partners)) samples ≡ map (mapped_sample partners) (map (mapped_sample below) samples)
+pub all_mapped_onward : (below partners : List (Option VarId)) (samples : Samples) → map (mapped_sample (partners_below below partners)) samples ≡ map (mapped_sample partners) (map (mapped_sample below) samples)
 all_mapped_onward below partners [] = refl
 all_mapped_onward below partners (s ∷ samples) =
     ap (λ t. t ∷ map (mapped_sample (partners_below below partners)) samples) (mapped_onward below partners s) ∙ ap (λ ts. mapped_sample partners (mapped_sample below s) ∷ ts) (all_mapped_onward below partners samples)

@@ -1,5 +1,5 @@
 -- What is merged at a point stands for all its samples.
-use Rattle.std.specs.Prelude.{◌≡◌, ◌<◌, ℕ, All, List, [], length, slice_get, Some}
+use Rattle.std.specs.Prelude.{◌≡◌, ◌<◌, ℕ, All, List, [], length, slice_get, Option, Some, refl}
 use Rattle.std.proofs.Common.{◌∙◌, arith, get_or, subst, sym}
 use Rattle.std.proofs.lemmas.List.{append-nil}
 use Rattle.std.proofs.lemmas.List.Elements.{All-contains, All-contains_itself, All-weaker}
@@ -12,13 +12,15 @@ use Rattle.dk_instances.proofs.Fitting.{fit_of_set}
 use Rattle.dk_instances.proofs.Members.{contained, is_in}
 use Rattle.dk_points.specs.Table.{Point}
 use Rattle.dk_samples.specs.Samples.{value_in}
+use Rattle.dk_hierarchy.proofs.Descending.{by_any}
 use Rattle.dk_hierarchy.proofs.Merging.{merged_stand}
 use Rattle.dk_hierarchy.proofs.Telling.{Samples}
 use Rattle.dk_hierarchy.specs.Descent.{IsDescent, IsWayDown}
 use Rattle.dk_hierarchy.specs.Edges.{ArePartners}
 use Rattle.dk_hierarchy.specs.Merging.{AreWays, IsWay, Joint, engine_at}
-use Rattle.dk_hierarchy.specs.Samples.{all_vars_of, own_samples_of, samples_of}
-use Rattle.dk_hierarchy.specs.Standing.{AreEnginesOf, IsMergedAt, JointStandsFor}
+use Rattle.dk_hierarchy.specs.Samples.{OwnSamples, all_vars_of, own_samples_of, samples_of}
+use Rattle.dk_hierarchy.specs.Shortcuts.{IsDescentBy, ShortcutsHold}
+use Rattle.dk_hierarchy.specs.Standing.{AreEnginesOf, EnginesStandFor, IsMergedAt, JointStandsFor}
 use Rattle.dk_hierarchy.specs.Ways.{SamplesTellTheSame, samples_through_all}
 use Rattle.dk_hierarchy.specs.declared.way.Way.{Way}
 
@@ -39,7 +41,7 @@ stands_alike joint a b same stands = record {
 }
 
 -- ---- at a point
-module _ (ps : List Point) (p : ℕ) (engines : List Whole) (are : AreEnginesOf ps engines) (here : Whole) (at : slice_get engines p ≡ Some here) (ways : List Way) (descent : IsDescent ps p ways []) where
+module _ (ps : List Point) (p : ℕ) (engines : List Whole) (are : AreEnginesOf ps engines) (here : Whole) (at : slice_get engines p ≡ Some here) (ways : List Way) (shortcuts : List (Option Way)) (descent : IsDescentBy ps shortcuts p ways []) where
   abbrev joint : Joint
   joint = record { here = here; engines = engines; ways = ways }
 
@@ -56,11 +58,19 @@ module _ (ps : List Point) (p : ℕ) (engines : List Whole) (are : AreEnginesOf 
             (subst (λ vs. ArePartners vs (all_vars_of ps way.point.0) way.partners) (sym (are.variables p here at).0) is.partners);
       }
 
-  pub are_ways : AreWays joint
-  are_ways = All-weaker (IsWayDown ps p) (IsWay joint) way_is ways descent.done
+  pub are_ways_by : AreWays joint
+  are_ways_by = All-weaker (IsWayDown ps p) (IsWay joint) way_is ways descent.done
 
-  pub merged_at : IsMergedAt ps engines p joint
-  merged_at own stand =
+  pub merged_by : ((own : OwnSamples) → EnginesStandFor engines (own_samples_of ps own) → ShortcutsHold ps own shortcuts) → IsMergedAt ps engines p joint
+  merged_by hold own stand =
       stands_alike joint (samples_of ps own p) (samples_through_all (own_samples_of ps own) ways)
-      (subst (SamplesTellTheSame (samples_of ps own p)) (append-nil (samples_through_all (own_samples_of ps own) ways)) (descent.brings own))
-      (merged_stand joint are_ways (All-weaker (IsWayDown ps p) (λ way. 0 < way.paths) (λ way is. is.some) ways descent.done) (own_samples_of ps own) stand)
+      (subst (SamplesTellTheSame (samples_of ps own p)) (append-nil (samples_through_all (own_samples_of ps own) ways)) (descent.brings own (hold own stand)))
+      (merged_stand joint are_ways_by (All-weaker (IsWayDown ps p) (λ way. 0 < way.paths) (λ way is. is.some) ways descent.done) (own_samples_of ps own) stand)
+
+-- without shortcuts
+module _ (ps : List Point) (p : ℕ) (engines : List Whole) (are : AreEnginesOf ps engines) (here : Whole) (at : slice_get engines p ≡ Some here) (ways : List Way) (descent : IsDescent ps p ways []) where
+  pub are_ways : AreWays (record { here = here; engines = engines; ways = ways })
+  are_ways = are_ways_by ps p engines are here at ways [] (by_any ps p [] ways [] descent)
+
+  pub merged_at : IsMergedAt ps engines p (record { here = here; engines = engines; ways = ways })
+  merged_at = merged_by ps p engines are here at ways [] (by_any ps p [] ways [] descent) (λ own stand q. refl)

@@ -7,5 +7,6 @@ pub mod WayLaws
 pub mod Merging
 pub mod Standing
 pub mod Having
+pub mod Shortcuts
 -- what those are made of, and words for the crates above
 pub mod Ways

@@ -1,7 +1,8 @@
 // Going down from a point, the ways to points of the greatest rank first.
 ghost use Rattle.std.specs.Prelude.{◌≡◌, ◌<◌, ◌++◌, [], ◌∷◌, IfOk, OnOk, length};
 ghost use Rattle.dk_graph.specs.Graphs.{AreRanks};
-ghost use Rattle.dk_hierarchy.specs.Descent.{AreBelow, AreLevels, IsDescent, ways_in, with_ways_below};
+ghost use Rattle.dk_hierarchy.specs.Descent.{AreBelow, AreLevels, ways_in};
+ghost use Rattle.dk_hierarchy.specs.Shortcuts.{IsDescentBy, LeadDown, with_ways_on};
 ghost use Rattle.dk_hierarchy.specs.Standing.{AreEnginesOf};
 ghost use Rattle.dk_hierarchy.specs.Ways.{way_below};
 ghost use Rattle.dk_points.specs.Links.{nodes};
@@ -9,19 +10,21 @@ ghost use Rattle.dk_points.specs.Links.{nodes};
 use crate::Way;
 use crate::composing::{onward, partners_of};
 use crate::levels::{Levels, first_way};
+use crate::shortcut::{Shortcut, go_on};
 use dk_base::{List, NoMemory, PointId};
 use dk_engine::Engine;
 use dk_graph::Edge;
 use dk_points::Points;
 use std::alloc::Global;
 
-// A table, the ranks and the engines of its points, and the point from which it goes down.
+// A table, the ranks, the engines and the shortcuts of its points, and the point from which it goes down.
 #[derive(Clone, Copy)]
 struct Descent<'a> {
     alloc: Global,
     points: &'a Points,
     ranks: &'a [u32],
     engines: &'a [Engine],
+    shortcuts: &'a [Shortcut],
     top: PointId,
 }
 
@@ -47,12 +50,14 @@ impl<'a> Descent<'a> {
     fn add_ways_below(&self, levels: &mut Levels, way: &Way) -> Result<(), NoMemory>
         requires engines { AreEnginesOf self.now.points.now self.now.engines.now }
         requires ranks { AreRanks (nodes self.now.points.now) self.now.ranks.now }
+        requires shortcuts { LeadDown self.now.points.now self.now.shortcuts.now }
         requires point { way.now.point.0 < length self.now.points.now }
-        ensures { OnOk result (levels.new ≡ with_ways_below self.now.points.now self.now.ranks.now levels.old way.now) }
+        ensures { OnOk result (levels.new ≡ with_ways_on self.now.points.now self.now.ranks.now self.now.shortcuts.now levels.old way.now) }
     {
         for edge in self.points.into(way.point) {
-            let below = self.way_below(way, *edge)?;
-            levels.add(self.ranks[edge.child.0 as usize], below)?;
+            let mut on = self.way_below(way, *edge)?;
+            go_on(self.alloc, self.shortcuts, &mut on)?;
+            levels.add(self.ranks[on.point.0 as usize], on)?;
         }
         Ok(())
     }
@@ -67,10 +72,11 @@ impl<'a> Descent<'a> {
     ) -> Result<(), NoMemory>
         requires engines { AreEnginesOf self.now.points.now self.now.engines.now }
         requires ranks { AreRanks (nodes self.now.points.now) self.now.ranks.now }
-        requires descent { IsDescent self.now.points.now self.now.top.0 ways.old (ways_in levels.old ++ level) }
+        requires shortcuts { LeadDown self.now.points.now self.now.shortcuts.now }
+        requires descent { IsDescentBy self.now.points.now self.now.shortcuts.now self.now.top.0 ways.old (ways_in levels.old ++ level) }
         requires levels { AreLevels self.now.ranks.now (levels.old ++ (rank, level) ∷ []) }
         requires below { AreBelow rank levels.old }
-        ensures descent { OnOk result (IsDescent self.now.points.now self.now.top.0 ways.new (ways_in levels.new)) }
+        ensures descent { OnOk result (IsDescentBy self.now.points.now self.now.shortcuts.now self.now.top.0 ways.new (ways_in levels.new)) }
         ensures levels { OnOk result (AreLevels self.now.ranks.now levels.new) }
         ensures below { OnOk result (AreBelow rank levels.new) }
     {
@@ -83,16 +89,19 @@ impl<'a> Descent<'a> {
     }
 }
 
-/// The ways down from a point, each behind all ways to points above its lower one. They bring all its samples.
+/// The ways down from a point by shortcuts, each behind all ways to points above its lower one. Where the shortcuts hold, they bring all
+/// its samples.
 pub(crate) fn ways_down(
     alloc: Global,
     points: &Points,
     engines: &[Engine],
+    shortcuts: &[Shortcut],
     top: PointId,
 ) -> Result<List<Way>, NoMemory>
     requires point { top.0 < length points.now }
     requires engines { AreEnginesOf points.now engines.now }
-    ensures { IfOk result (λ ways. IsDescent points.now top.0 ways []) }
+    requires shortcuts { LeadDown points.now shortcuts.now }
+    ensures { IfOk result (λ ways. IsDescentBy points.now shortcuts.now top.0 ways []) }
 {
     let ranks = points.ranks();
     let descent = Descent {
@@ -100,6 +109,7 @@ pub(crate) fn ways_down(
         points,
         ranks,
         engines,
+        shortcuts,
         top,
     };
     let number = engines[top.0 as usize].vars().len() as u32;

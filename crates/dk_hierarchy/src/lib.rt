@@ -8,10 +8,12 @@ mod having;
 pub mod laws;
 mod levels;
 mod merged;
+mod shortcut;
 mod way;
 
 pub use composing::partners_of;
 pub use engines::engine_of;
 pub use having::have_samples;
-pub use merged::{Merged, merge};
+pub use merged::{Merged, merge, merge_by};
+pub use shortcut::{Shortcut, shortcuts};
 pub use way::{Way, partners_at};

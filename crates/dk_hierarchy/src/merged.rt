@@ -4,6 +4,7 @@ ghost use Rattle.dk_base.specs.declared.values.Value.{Value as SampleValue};
 ghost use Rattle.dk_engine.specs.Exact.{AreOfPoint};
 ghost use Rattle.dk_hierarchy.specs.Descent.{IsDescent};
 ghost use Rattle.dk_hierarchy.specs.Merging.{AreWays, IsWay, agree_through, count_through, engine_at, merged_agree, merged_count, merged_state, same_kinds, state_through};
+ghost use Rattle.dk_hierarchy.specs.Shortcuts.{AreShortcuts};
 ghost use Rattle.dk_hierarchy.specs.Standing.{AreEnginesOf, EngineStandsFor, IsMergedAt, JointStandsFor};
 ghost use Rattle.dk_presence.specs.Patterns.{capped};
 ghost use Rattle.dk_template.specs.Admitted.{admits};
@@ -14,6 +15,7 @@ ghost use Rattle.dk_template.specs.Templates.{IsRowOf, form_of};
 use crate::Way;
 use crate::descent::ways_down;
 use crate::levels::first_way;
+use crate::shortcut::Shortcut;
 use crate::way::{partner_at, partners_at};
 use dk_base::{List, NoMemory, PointId, VarId, VarInfo};
 use dk_engine::Engine;
@@ -205,7 +207,33 @@ pub fn merge<'e>(
     ensures ways { IfOk result (λ merged. IsDescent points.now p.0 merged.ways []) }
     ensures stands { IfOk result (IsMergedAt points.now engines.now p.0) }
 {
-    let ways = ways_down(alloc, points, engines, p)?;
+    let ways = ways_down(alloc, points, engines, &[], p)?;
+    Ok(Merged {
+        alloc,
+        here: &engines[p.0 as usize],
+        engines,
+        ways,
+    })
+}
+
+/// The same by shortcuts, which are found once for all points of a table: no way stays at a point that has no own samples and whose
+/// samples all come by one edge, but at the upper point itself.
+pub fn merge_by<'e>(
+    alloc: Global,
+    points: &Points,
+    engines: &'e [Engine],
+    shortcuts: &[Shortcut],
+    p: PointId,
+) -> Result<Merged<'e>, NoMemory>
+    requires point { p.0 < length points.now }
+    requires engines { AreEnginesOf points.now engines.now }
+    requires shortcuts { AreShortcuts points.now engines.now shortcuts.now }
+    ensures here { IfOk result (λ merged. slice_get engines.now p.0 ≡ Some merged.here) }
+    ensures engines { IfOk result (λ merged. merged.engines ≡ engines.now) }
+    ensures paths { IfOk result (λ merged. All (λ way. 0 < way.paths) merged.ways) }
+    ensures stands { IfOk result (IsMergedAt points.now engines.now p.0) }
+{
+    let ways = ways_down(alloc, points, engines, shortcuts, p)?;
     Ok(Merged {
         alloc,
         here: &engines[p.0 as usize],

@@ -4,7 +4,6 @@ ghost use Rattle.dk_base.specs.declared.values.Value.{Value as SampleValue};
 ghost use Rattle.dk_engine.specs.Exact.{AreOfPoint};
 ghost use Rattle.dk_engine.specs.Reading.{count_read};
 ghost use Rattle.dk_engine.specs.declared.kept.Kept.{Kept};
-ghost use Rattle.dk_hierarchy.specs.Descent.{IsDescent};
 ghost use Rattle.dk_hierarchy.specs.Edges.{partners_at};
 ghost use Rattle.dk_hierarchy.specs.Merging.{AreWays, IsWay, engine_at, merged_agree, merged_count, merged_state};
 ghost use Rattle.dk_hierarchy.specs.Standing.{AreEnginesOf, EngineStandsFor, IsMergedAt, JointStandsFor};
@@ -402,7 +401,7 @@ pub(crate) fn merge_counted<'e>(
     requires engines { AreEnginesOf points.now engines.now }
     ensures here { IfOk result (λ counted. slice_get engines.now p.0 ≡ Some counted.here) }
     ensures engines { IfOk result (λ counted. counted.engines ≡ engines.now) }
-    ensures ways { IfOk result (λ counted. IsDescent points.now p.0 counted.ways []) }
+    ensures paths { IfOk result (λ counted. All (λ way. 0 < way.paths) counted.ways) }
     ensures stands { IfOk result (IsMergedAt points.now engines.now p.0) }
 {
     let merged = merge(alloc, points, engines, p)?;

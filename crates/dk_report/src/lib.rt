@@ -15,6 +15,6 @@ mod sweeping;
 mod viewing;
 
 pub use options::Options;
-pub use sections::{kept_instances, push_section};
+pub use sections::{kept_instances, push_section, push_section_by};
 pub use separate::kept_alone;
 pub use stats::push_stats;

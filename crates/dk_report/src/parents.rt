@@ -2,6 +2,7 @@
 ghost use Rattle.std.specs.Prelude.{◌≡◌, ◌<◌, ◌≤◌, IfOk, length};
 ghost use Rattle.std.specs.List.{AllZip};
 ghost use Rattle.dk_graph.specs.Graphs.{edges_from};
+ghost use Rattle.dk_hierarchy.specs.Shortcuts.{AreShortcuts};
 ghost use Rattle.dk_hierarchy.specs.Standing.{AreEnginesOf};
 ghost use Rattle.dk_points.specs.Links.{nodes};
 ghost use Rattle.dk_report.specs.Parents.{IsParentBy, IsViewBy};
@@ -9,7 +10,7 @@ ghost use Rattle.dk_report.specs.Parents.{IsParentBy, IsViewBy};
 use dk_base::{List, NoMemory, PointId, VarId};
 use dk_engine::Engine;
 use dk_filters::ParentView;
-use dk_hierarchy::{Merged, merge, partners_of};
+use dk_hierarchy::{Merged, Shortcut, merge_by, partners_of};
 use dk_points::{Edge, Points};
 use std::alloc::Global;
 
@@ -25,9 +26,11 @@ fn parent_by<'e>(
     alloc: Global,
     points: &Points,
     engines: &'e [Engine],
+    shortcuts: &[Shortcut],
     edge: Edge,
 ) -> Result<MergedParent<'e>, NoMemory>
     requires engines { AreEnginesOf points.now engines.now }
+    requires shortcuts { AreShortcuts points.now engines.now shortcuts.now }
     requires child { edge.child.0 < length points.now }
     requires parent { edge.parent.0 < length points.now }
     ensures { IfOk result (λ parent. IsParentBy points.now engines.now parent edge) }
@@ -35,7 +38,7 @@ fn parent_by<'e>(
     let parent = engines[edge.parent.0 as usize].vars();
     let child = engines[edge.child.0 as usize].vars();
     Ok(MergedParent {
-        answers: merge(alloc, points, engines, edge.parent)?,
+        answers: merge_by(alloc, points, engines, shortcuts, edge.parent)?,
         partners: partners_of(alloc, points, edge, parent, child)?,
     })
 }
@@ -45,15 +48,17 @@ pub(crate) fn parents_of<'e>(
     alloc: Global,
     points: &Points,
     engines: &'e [Engine],
+    shortcuts: &[Shortcut],
     p: PointId,
 ) -> Result<Vec<MergedParent<'e>>, NoMemory>
     requires point { p.0 < length points.now }
     requires engines { AreEnginesOf points.now engines.now }
+    requires shortcuts { AreShortcuts points.now engines.now shortcuts.now }
     ensures { IfOk result (λ parents. AllZip (IsParentBy points.now engines.now) parents.items (edges_from (nodes points.now) p.0)) }
 {
     let mut parents = Vec::new(alloc);
     for edge in points.from(p) {
-        parents.push(parent_by(alloc, points, engines, *edge)?)?;
+        parents.push(parent_by(alloc, points, engines, shortcuts, *edge)?)?;
     }
     Ok(parents)
 }

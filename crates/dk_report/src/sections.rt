@@ -1,7 +1,7 @@
 // The section of a point.
-ghost use Rattle.std.specs.Prelude.{◌≡◌, ◌<◌, ◌++◌, [], IfOk, OnOk, Some, length, slice_get};
-ghost use Rattle.dk_hierarchy.specs.Descent.{IsDescent};
+ghost use Rattle.std.specs.Prelude.{◌≡◌, ◌<◌, ◌++◌, All, IfOk, OnOk, Some, length, slice_get};
 ghost use Rattle.dk_hierarchy.specs.Samples.{OwnSamples, own_samples_of};
+ghost use Rattle.dk_hierarchy.specs.Shortcuts.{AreShortcuts};
 ghost use Rattle.dk_hierarchy.specs.Standing.{AreEnginesOf, EnginesStandFor, IsMergedAt};
 ghost use Rattle.dk_report.specs.Engines.{grammar_at};
 ghost use Rattle.dk_report.specs.Reports.{has_samples, kept_instances, section_of};
@@ -13,7 +13,7 @@ use crate::parents::{parents_of, views_of};
 use dk_base::{List, NoMemory, PointId, Text};
 use dk_engine::Engine;
 use dk_filters::{Candidate, PointFacts};
-use dk_hierarchy::merge;
+use dk_hierarchy::{Shortcut, merge_by};
 use dk_points::Points;
 use dk_template::Answers;
 use std::alloc::Global;
@@ -24,18 +24,20 @@ fn kept_by<'a, 'e>(
     options: &'a Options,
     points: &Points,
     engines: &'e [Engine],
+    shortcuts: &[Shortcut],
     p: PointId,
     here: &'a Counted<'e>,
 ) -> Result<List<Candidate>, NoMemory>
     requires point { p.0 < length points.now }
     requires engines { AreEnginesOf points.now engines.now }
+    requires shortcuts { AreShortcuts points.now engines.now shortcuts.now }
     requires here { slice_get engines.now p.0 ≡ Some here.now.here }
     requires same { here.now.engines ≡ engines.now }
-    requires ways { IsDescent points.now p.0 here.now.ways [] }
+    requires paths { All (λ way. 0 < way.paths) here.now.ways }
     requires stands { IsMergedAt points.now engines.now p.0 here.now }
     ensures { IfOk result (λ list. (own : OwnSamples) → EnginesStandFor engines.now (own_samples_of points.now own) → list ≡ kept_instances (grammar_at engines.now p.0) options.now points.now own p.0) }
 {
-    let parents = parents_of(alloc, points, engines, p)?;
+    let parents = parents_of(alloc, points, engines, shortcuts, p)?;
     let views = views_of(alloc, parents.as_slice())?;
     let engine = &engines[p.0 as usize];
     let found = PointFacts::of(alloc, here.vars(), here, views.as_slice())?;
@@ -66,7 +68,7 @@ pub fn kept_instances(
     ensures { IfOk result (λ list. (own : OwnSamples) → EnginesStandFor engines.now (own_samples_of points.now own) → list ≡ kept_instances (grammar_at engines.now p.0) options.now points.now own p.0) }
 {
     let here = merge_counted(alloc, points, engines, p)?;
-    kept_by(alloc, options, points, engines, p, &here)
+    kept_by(alloc, options, points, engines, &[], p, &here)
 }
 
 /// The section of a point, behind the text, from what the engines of the table's points keep: whether the point has samples, its
@@ -85,13 +87,32 @@ pub fn push_section(
     ensures samples { IfOk result (λ some. (own : OwnSamples) → EnginesStandFor engines.now (own_samples_of points.now own) → some ≡ has_samples points.now own p.0) }
     ensures text { OnOk result ((own : OwnSamples) → EnginesStandFor engines.now (own_samples_of points.now own) → text.new ≡ text.old ++ section_of (grammar_at engines.now p.0) options.now points.now own p.0) }
 {
-    let merged = merge(alloc, points, engines, p)?;
+    push_section_by(alloc, text, options, points, engines, &[], p)
+}
+
+/// The same by shortcuts, which are found once for the sections of all points.
+pub fn push_section_by(
+    alloc: Global,
+    text: &mut Text,
+    options: &Options,
+    points: &Points,
+    engines: &[Engine],
+    shortcuts: &[Shortcut],
+    p: PointId,
+) -> Result<bool, NoMemory>
+    requires point { p.0 < length points.now }
+    requires engines { AreEnginesOf points.now engines.now }
+    requires shortcuts { AreShortcuts points.now engines.now shortcuts.now }
+    ensures samples { IfOk result (λ some. (own : OwnSamples) → EnginesStandFor engines.now (own_samples_of points.now own) → some ≡ has_samples points.now own p.0) }
+    ensures text { OnOk result ((own : OwnSamples) → EnginesStandFor engines.now (own_samples_of points.now own) → text.new ≡ text.old ++ section_of (grammar_at engines.now p.0) options.now points.now own p.0) }
+{
+    let merged = merge_by(alloc, points, engines, shortcuts, p)?;
     let samples = merged.count(&[]);
     if samples == 0 {
         return Ok(false);
     }
     let here = Counted::of(alloc, merged, engines)?;
-    let list = kept_by(alloc, options, points, engines, p, &here)?;
+    let list = kept_by(alloc, options, points, engines, shortcuts, p, &here)?;
     let vars = engines[p.0 as usize].vars();
     dk_print::push_section(text, points.name(p), samples, vars, list.as_slice())?;
     Ok(true)

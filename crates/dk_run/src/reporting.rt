@@ -5,7 +5,8 @@ ghost use Rattle.std.specs.Option.{option_map_or};
 ghost use Rattle.dk_blocks.specs.History.{History};
 ghost use Rattle.dk_core.specs.Sections.{all_stats_of, has_samples, have_samples, report_of, section_of, stats_of};
 ghost use Rattle.dk_core.specs.Selecting.{SelectsBy};
-ghost use Rattle.dk_core.specs.Standing.{SessionStandsFor, blocks_of, points_of, select_of};
+ghost use Rattle.dk_core.specs.Standing.{SessionStandsFor, blocks_of, engines_of, points_of, select_of};
+ghost use Rattle.dk_hierarchy.specs.Shortcuts.{AreShortcuts};
 ghost use Rattle.dk_run.specs.Commands.{is_selected, report_options};
 ghost use Rattle.dk_print.specs.Sections.{after_blocks_line as blocks_text, end_line as end_text};
 ghost use Rattle.dk_program.specs.Telling.{WritesText};
@@ -15,7 +16,7 @@ ghost use Rattle.dk_run.specs.Telling.{ReportsBy, StateTells, TellsOutcome};
 use crate::messages::{after_blocks_line, end_line};
 use dk_base::{PointId, Text};
 use dk_command_line::Command;
-use dk_core::Session;
+use dk_core::{Session, Shortcut};
 use dk_io::{Sinks, Stream};
 use dk_program::{Halt, write};
 use std::alloc::Global;
@@ -25,11 +26,13 @@ fn tell_section<F: Fn(&[u8]) -> bool + Drop, S: Sinks>(
     alloc: Global,
     command: &Command,
     session: &Session<F>,
+    shortcuts: &[Shortcut],
     has: bool,
     p: u32,
     sinks: &mut S,
 ) -> Result<(), Halt>
     requires within { p < length (points_of session.now) }
+    requires shortcuts { AreShortcuts (points_of session.now) (engines_of session.now) shortcuts.now }
     requires has { (h : History) → SessionStandsFor session.now h → has ≡ has_samples h p }
     requires reports { ReportsBy command.now session.now }
     requires callable { F.IsAlwaysCallable (select_of session.now) }
@@ -41,7 +44,7 @@ fn tell_section<F: Fn(&[u8]) -> bool + Drop, S: Sinks>(
         return Ok(());
     }
     let mut text = Text::new(alloc);
-    match session.push_section(&mut text, PointId(p)) {
+    match session.push_section_by(&mut text, shortcuts, PointId(p)) {
         Ok(_) => write(sinks, Stream::Report, text.as_slice()),
         Err(_) => Err(Halt::NoMemory),
     }
@@ -49,6 +52,38 @@ fn tell_section<F: Fn(&[u8]) -> bool + Drop, S: Sinks>(
 
 // Writes the sections of all points, of which these have samples.
 fn tell_marked<F: Fn(&[u8]) -> bool + Drop, S: Sinks>(
+    alloc: Global,
+    command: &Command,
+    session: &Session<F>,
+    shortcuts: &[Shortcut],
+    marks: &[bool],
+    sinks: &mut S,
+) -> Result<(), Halt>
+    requires shortcuts { AreShortcuts (points_of session.now) (engines_of session.now) shortcuts.now }
+    requires long { length marks.now ≡ length (points_of session.now) }
+    requires marks { (h : History) → SessionStandsFor session.now h → marks.now ≡ have_samples h }
+    requires reports { ReportsBy command.now session.now }
+    requires callable { F.IsAlwaysCallable (select_of session.now) }
+    requires selects { SelectsBy (F.post (select_of session.now)) (is_selected command.now) }
+    ensures { TellsOutcome (SessionStandsFor session.now) (λ h. report_of (report_options command.now) (is_selected command.now) h) (S.written sinks.old) (S.written sinks.new) (S.faults sinks.old) (S.faults sinks.new) result }
+{
+    let points = session.points();
+    for p in 0..points.len() {
+        tell_section(
+            alloc,
+            command,
+            session,
+            shortcuts,
+            marks[p as usize],
+            p,
+            sinks,
+        )?;
+    }
+    Ok(())
+}
+
+// Writes them by shortcuts, which are found for all points at once.
+fn tell_by_shortcuts<F: Fn(&[u8]) -> bool + Drop, S: Sinks>(
     alloc: Global,
     command: &Command,
     session: &Session<F>,
@@ -62,11 +97,10 @@ fn tell_marked<F: Fn(&[u8]) -> bool + Drop, S: Sinks>(
     requires selects { SelectsBy (F.post (select_of session.now)) (is_selected command.now) }
     ensures { TellsOutcome (SessionStandsFor session.now) (λ h. report_of (report_options command.now) (is_selected command.now) h) (S.written sinks.old) (S.written sinks.new) (S.faults sinks.old) (S.faults sinks.new) result }
 {
-    let points = session.points();
-    for p in 0..points.len() {
-        tell_section(alloc, command, session, marks[p as usize], p, sinks)?;
+    match session.shortcuts() {
+        Ok(shortcuts) => tell_marked(alloc, command, session, shortcuts.as_slice(), marks, sinks),
+        Err(_) => Err(Halt::NoMemory),
     }
-    Ok(())
 }
 
 // Writes the sections of all points. Which have samples is found for all at once, since a section goes down from its point.
@@ -82,7 +116,7 @@ fn tell_sections<F: Fn(&[u8]) -> bool + Drop, S: Sinks>(
     ensures { TellsOutcome (SessionStandsFor session.now) (λ h. report_of (report_options command.now) (is_selected command.now) h) (S.written sinks.old) (S.written sinks.new) (S.faults sinks.old) (S.faults sinks.new) result }
 {
     match session.have_samples() {
-        Ok(marks) => tell_marked(alloc, command, session, marks.as_slice(), sinks),
+        Ok(marks) => tell_by_shortcuts(alloc, command, session, marks.as_slice(), sinks),
         Err(_) => Err(Halt::NoMemory),
     }
 }

@@ -5,7 +5,8 @@ use Rattle.dk_points.proofs.Nodes.{length-nodes}
 use Rattle.dk_hierarchy.proofs.Following.{at_first, ways_taken}
 use Rattle.dk_hierarchy.proofs.MoreWays.{above_all, above_below, above_last}
 use Rattle.dk_hierarchy.proofs.TableEngines.{vars_are, vars_few}
-use Rattle.dk_hierarchy.specs.Descent.{AreLevels, IsDescent, first_way, ways_in, with_way_at}
+use Rattle.dk_hierarchy.specs.Descent.{AreLevels, first_way, ways_in, with_way_at}
+use Rattle.dk_hierarchy.specs.Shortcuts.{IsDescentBy}
 use Rattle.dk_hierarchy.specs.Samples.{all_vars_of}
 use Rattle.dk_hierarchy.specs.declared.way.Way.{Way}
 use Rattle.dk_hierarchy.proofs.descent.ways_down.Goals as goal
@@ -27,6 +28,7 @@ pub loop-rank-init : goal.loop-rank-init
 loop-rank-init c =
     let ps = c.args.points.now in
     let p = c.args.top.0 in
+    let shortcuts = c.args.shortcuts.now in
     let rank = slice_index c.ranks-ranks.result.now p in
     let number : length c.vars.result.now ≡ length (all_vars_of ps p) =
     ap length c.vars.ensures
@@ -36,12 +38,12 @@ loop-rank-init c =
     c.in_ok-add.ensures
     ∙ (ap (λ (ls : List (ℕ × List Way)). with_way_at ls rank c.in_ok-first.first) c.new-levels.ensures
     ∙ ap (λ (w : Way). (rank, w ∷ []) ∷ []) first) in
-    subst (λ (ws : List Way). IsDescent ps p ws (ways_in c.add.new.self) × AreLevels c.ranks-ranks.result.now c.add.new.self) (sym c.new-ways.ensures)
-    (at_first ps c.ranks-ranks.result.now p c.requires.point c.add.new.self levels)
+    subst (λ (ws : List Way). IsDescentBy ps shortcuts p ws (ways_in c.add.new.self) × AreLevels c.ranks-ranks.result.now c.add.new.self) (sym c.new-ways.ensures)
+    (at_first ps c.ranks-ranks.result.now shortcuts p c.requires.point c.add.new.self levels)
 
 pub follow-requires-clause-descent : goal.follow-requires-clause-descent
 follow-requires-clause-descent c =
-    subst (IsDescent c.args.points.now c.args.top.0 c.loop-rank.ways)
+    subst (IsDescentBy c.args.points.now c.args.shortcuts.now c.args.top.0 c.loop-rank.ways)
     (ways_taken c.loop-rank.levels c.pop.new.self c.in-Some.rank c.in-Some.level c.in-Some.ensures.some) c.loop-rank.invariant.0
 
 pub follow-requires-clause-levels : goal.follow-requires-clause-levels
@@ -55,4 +57,4 @@ loop-rank-smaller c =
     omega (arith, taken, last, below)
 
 pub returns : goal.returns
-returns c = subst (λ (ls : List (ℕ × List Way)). IsDescent c.args.points.now c.args.top.0 c.loop-rank.ways (ways_in ls)) c.in_default.ensures.none c.loop-rank.invariant.0
+returns c = subst (λ (ls : List (ℕ × List Way)). IsDescentBy c.args.points.now c.args.shortcuts.now c.args.top.0 c.loop-rank.ways (ways_in ls)) c.in_default.ensures.none c.loop-rank.invariant.0

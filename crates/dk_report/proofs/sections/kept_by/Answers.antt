@@ -1,7 +1,7 @@
 use Rattle.std.specs.Prelude.{◌≡◌, ◌<◌, ◌^◌, List, length, map, ℕ}
 use Rattle.std.specs.List.{AllZip}
 use Rattle.std.proofs.Common.{◌∙◌, ap, arith, subst, sym}
-use Rattle.std.proofs.lemmas.List.Elements.{All-same, All-weaker}
+use Rattle.std.proofs.lemmas.List.Elements.{All-same}
 use Rattle.dk_base.specs.declared.kinds.VarInfo.{VarInfo}
 use Rattle.dk_base.specs.declared.values.Value.{Value}
 use Rattle.dk_engine.specs.Reading.Levels.{Whole}
@@ -14,11 +14,9 @@ use Rattle.dk_filters.specs.declared.parents.ParentView.{ParentView}
 use Rattle.dk_graph.proofs.Places.{some-injective}
 use Rattle.dk_graph.specs.Graphs.{edges_from}
 use Rattle.dk_hierarchy.proofs.TableEngines.{engine_got}
-use Rattle.dk_hierarchy.specs.Descent.{IsWayDown}
 use Rattle.dk_hierarchy.specs.Merging.{Joint, merged_agree, merged_count, merged_state}
 use Rattle.dk_hierarchy.specs.Samples.{own_samples_of}
 use Rattle.dk_hierarchy.specs.Standing.{EnginesStandFor}
-use Rattle.dk_hierarchy.specs.declared.way.Way.{Way}
 use Rattle.dk_points.specs.Links.{nodes}
 use Rattle.dk_report.proofs.Reported.{if_ok, reported, small_views, views_can_show, views_show}
 use Rattle.dk_report.specs.Asked.{answers_of_joint, parent_of_view}
@@ -73,9 +71,7 @@ list_candidates-requires-clause-few c =
     (c.requires.engines.variables c.args.p.0 joint.here c.requires.here).1.few
 
 pub list_candidates-requires-clause-paths : goal.list_candidates-requires-clause-paths
-list_candidates-requires-clause-paths c =
-    let joint : Joint = c.args.here.now in
-    All-weaker (IsWayDown c.args.points.now c.args.p.0) (λ (way : Way). 0 < way.paths) (λ way is. is.some) joint.ways c.requires.ways.done
+list_candidates-requires-clause-paths c = c.requires.paths
 
 pub returns : goal.returns
 returns c =
