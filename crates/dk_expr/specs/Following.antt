@@ -6,8 +6,6 @@ use Rattle.dk_graph.specs.Notes.{noted_under}
 use Rattle.dk_print.specs.Parts.{Part, word, named, bound, values, null_or, remainder, modulus, lead, term, constant, step, bound_in, constant_term_in, factor_at, modulus_in, name_at, offset_in, part_text, remainder_in}
 use Rattle.dk_expr.specs.Naming.{Listed, no_var, var_at}
 use Rattle.dk_expr.specs.declared.found.Parsed.{Parsed}
-use Rattle.dk_expr.specs.declared.found.Said.{Said}
-use Rattle.dk_expr.specs.declared.found.Said.TheVariants as said
 
 -- ---- changes of what is found
 -- so many more bytes are read
@@ -29,14 +27,6 @@ with_factor role k f =
       second_factor = if role == 1 then k else f.second_factor;
       third_factor = if role == 2 then k else f.third_factor;
     }
-
--- the number that a part tells
-abbrev pub with_number : Said → ℤ → Parsed → Parsed
-with_number said.Bound k f = record f { bound = k }
-with_number said.Remainder k f = record f { remainder = k }
-with_number said.Modulus k f = record f { modulus = k }
-with_number said.Offset k f = record f { offset = k }
-with_number said.Constant k f = record f { constant = k }
 
 -- a number of this size and sign
 abbrev pub with_sign : Bool → ℤ → ℤ

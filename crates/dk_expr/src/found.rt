@@ -1,6 +1,6 @@
 // What is found of an instance in a text.
-ghost use Rattle.std.specs.Prelude.{◌≡◌, ◌+◌, ◌<◌, ◌^◌, drop, if◌then◌else◌};
-ghost use Rattle.dk_expr.specs.Following.{past, start, with_factor, with_number, with_var};
+ghost use Rattle.std.specs.Prelude.{◌≡◌, ◌+◌, ◌<◌, ◌^◌, drop, if◌then◌else◌, length};
+ghost use Rattle.dk_expr.specs.Following.{past, start, with_factor, with_var};
 
 use dk_base::VarId;
 
@@ -29,16 +29,6 @@ pub(crate) struct Parsed {
     /// Where the values begin, and where what is said of a hash code does.
     pub(crate) values: usize,
     pub(crate) code: usize,
-}
-
-/// A number that a part tells, which is no factor.
-#[derive(Clone, Copy)]
-pub(crate) enum Said {
-    Bound,
-    Remainder,
-    Modulus,
-    Offset,
-    Constant,
 }
 
 // The new value, or the old one.
@@ -106,32 +96,11 @@ impl Parsed {
         }
     }
 
-    /// With the number that a part tells.
-    pub(crate) fn with_number(self, said: Said, number: i128) -> Parsed
-        ensures { result ≡ with_number said number self }
+    /// With all bytes of the text read.
+    pub(crate) fn at_end(self, text: &[u8]) -> Parsed
+        ensures { result ≡ past (length (drop self.at text.now)) self }
     {
-        match said {
-            Said::Bound => Parsed {
-                bound: number,
-                ..self
-            },
-            Said::Remainder => Parsed {
-                remainder: number,
-                ..self
-            },
-            Said::Modulus => Parsed {
-                modulus: number,
-                ..self
-            },
-            Said::Offset => Parsed {
-                offset: number,
-                ..self
-            },
-            Said::Constant => Parsed {
-                constant: number,
-                ..self
-            },
-        }
+        self.past(self.rest(text).len())
     }
 
     /// The bytes of the text that are left.

@@ -1,13 +1,13 @@
 // The ways in which a part can be read in the front of what is left of a text.
 ghost use Rattle.std.specs.Prelude.{◌≡◌, ◌++◌, ◌+◌, ◌<◌, ◌≤◌, ◌^◌, ℕ, Contains, List, OnOk, Some, drop, if◌then◌else◌, length, map, take};
 ghost use Rattle.dk_graph.specs.Notes.{noted_under};
-ghost use Rattle.dk_expr.specs.Following.{past, with_number, with_var};
+ghost use Rattle.dk_expr.specs.Following.{past, with_var};
 ghost use Rattle.dk_expr.specs.Readable.{begins_blank, may_be};
-ghost use Rattle.dk_expr.specs.Searches.{FindsConstant, FindsName, FindsNumber, FindsPart, FindsProduct, FindsStep, FindsTerm, FindsTimes, KeepsAll};
+ghost use Rattle.dk_expr.specs.Searches.{FindsConstant, FindsName, FindsPart, FindsProduct, FindsTerm, FindsTimes, KeepsAll};
 ghost use Rattle.dk_print.specs.Shown.{part_shown};
 ghost use Rattle.dk_expr.specs.declared.found.Parsed.{Parsed};
 
-use crate::found::{Parsed, Said};
+use crate::found::Parsed;
 use crate::names::VarNames;
 use crate::numbers::{number_at, sign_at, step_at, with_sign};
 use dk_base::{List, NoMemory, VarId};
@@ -188,51 +188,26 @@ fn with_word(text: &[u8], word: &[u8], found: Parsed) -> Option<Parsed>
     }
 }
 
-// A number.
-fn with_number(text: &[u8], said: Said, found: Parsed) -> Option<Parsed>
-    ensures { FindsNumber text.now found (λ k. with_number said k found) result }
-{
-    let number = number_at(found.rest(text))?;
-    Some(found.past(number.len).with_number(said, number.value))
-}
-
-// A number with its sign.
-fn with_step(text: &[u8], said: Said, found: Parsed) -> Option<Parsed>
-    ensures { FindsStep text.now found (λ k. with_number said k found) result }
-{
-    let number = step_at(found.rest(text))?;
-    Some(found.past(number.len).with_number(said, number.value))
-}
-
 // A constant with its sign, or 0 where there is none.
 fn push_constant(text: &[u8], found: Parsed, list: &mut List<Parsed>) -> Result<(), NoMemory>
     ensures keeps { OnOk result (KeepsAll list.old list.new) }
     ensures finds { OnOk result (FindsConstant text.now found (λ k. record found { constant = k }) list.new) }
 {
-    push_some(Some(found.with_number(Said::Constant, 0)), list)?;
-    push_some(with_step(text, Said::Constant, found), list)
-}
-
-// The values, which are all that is left.
-fn with_values(text: &[u8], found: Parsed) -> Parsed
-    ensures { result ≡ past (length (drop found.at text.now)) (record found { values = found.at }) }
-{
-    let told = Parsed {
-        values: found.at,
-        ..found
-    };
-    told.past(found.rest(text).len())
-}
-
-// What is said of a hash code, which is all that is left.
-fn with_code(text: &[u8], found: Parsed) -> Parsed
-    ensures { result ≡ past (length (drop found.at text.now)) (record found { code = found.at }) }
-{
-    let told = Parsed {
-        code: found.at,
-        ..found
-    };
-    told.past(found.rest(text).len())
+    push_some(
+        Some(Parsed {
+            constant: 0,
+            ..found
+        }),
+        list,
+    )?;
+    let step = step_at(found.rest(text));
+    push_some(
+        step.map(|step| Parsed {
+            constant: step.value,
+            ..found.past(step.len)
+        }),
+        list,
+    )
 }
 
 // The ways in which the part can be read behind what is found, with the following parts behind it.
@@ -247,17 +222,54 @@ pub(crate) fn push_part(
     ensures keeps { OnOk result (KeepsAll list.old list.new) }
     ensures finds { OnOk result (FindsPart names.now text.now (part_shown part) (map part_shown following.now) found list.new) }
 {
+    let rest = found.rest(text);
     match part {
         Part::Word(word) => push_some(with_word(text, word, found), list),
         Part::Named(role) => push_named(names, text, role, following, found, list),
-        Part::Bound => push_some(with_number(text, Said::Bound, found), list),
-        Part::Values => push_some(Some(with_values(text, found)), list),
-        Part::NullOr(_) => push_some(Some(with_code(text, found)), list),
-        Part::Remainder => push_some(with_number(text, Said::Remainder, found), list),
-        Part::Modulus => push_some(with_number(text, Said::Modulus, found), list),
+        Part::Bound => push_some(
+            number_at(rest).map(|number| Parsed {
+                bound: number.value,
+                ..found.past(number.len)
+            }),
+            list,
+        ),
+        Part::Values => push_some(
+            Some(Parsed {
+                values: found.at,
+                ..found.at_end(text)
+            }),
+            list,
+        ),
+        Part::NullOr(_) => push_some(
+            Some(Parsed {
+                code: found.at,
+                ..found.at_end(text)
+            }),
+            list,
+        ),
+        Part::Remainder => push_some(
+            number_at(rest).map(|number| Parsed {
+                remainder: number.value,
+                ..found.past(number.len)
+            }),
+            list,
+        ),
+        Part::Modulus => push_some(
+            number_at(rest).map(|number| Parsed {
+                modulus: number.value,
+                ..found.past(number.len)
+            }),
+            list,
+        ),
         Part::Lead(role) => push_times(names, text, role, false, following, found, list),
         Part::Term(role) => push_term(names, text, role, following, found, list),
         Part::Constant => push_constant(text, found, list),
-        Part::Step => push_some(with_step(text, Said::Offset, found), list),
+        Part::Step => push_some(
+            step_at(rest).map(|step| Parsed {
+                offset: step.value,
+                ..found.past(step.len)
+            }),
+            list,
+        ),
     }
 }
