@@ -51,121 +51,6 @@ fn push_vars(
     Ok(())
 }
 
-// The name of a variable, which is at the role, in so many bytes, with the following parts behind it.
-fn push_named_len(
-    names: &VarNames,
-    rest: &[u8],
-    len: usize,
-    role: usize,
-    following: &[Part],
-    found: Parsed,
-    list: &mut List<Parsed>,
-) -> Result<(), NoMemory>
-    requires within { len ≤ length rest.now }
-    requires fits { found.at + len < 2 ^ 64 }
-    ensures { OnOk result (list.new ≡ (if may_be (map part_shown following.now) (drop len rest.now) then list.old ++ map (λ v. with_var role v (past len found)) (noted_under names.now (take len rest.now)) else list.old)) }
-{
-    let (name, behind) = rest.split_at(len);
-    if may_be(following, behind) {
-        push_vars(names.under(name), role, found.past(len), list)
-    } else {
-        Ok(())
-    }
-}
-
-// The name of a variable, which is at the role, with the following parts behind it. Only as many bytes as some name has are looked up.
-fn push_named(
-    names: &VarNames,
-    text: &[u8],
-    role: usize,
-    following: &[Part],
-    found: Parsed,
-    list: &mut List<Parsed>,
-) -> Result<(), NoMemory>
-    ensures keeps { OnOk result (KeepsAll list.old list.new) }
-    ensures finds { OnOk result (FindsName names.now text.now role (map part_shown following.now) found list.new) }
-{
-    let rest = found.rest(text);
-    let lengths = names.lengths();
-    for len in lengths {
-        if *len <= rest.len() {
-            push_named_len(names, rest, *len, role, following, found, list)?;
-        }
-    }
-    Ok(())
-}
-
-// A name with a factor of this sign in front of it.
-fn push_product(
-    names: &VarNames,
-    text: &[u8],
-    role: usize,
-    is_negative: bool,
-    following: &[Part],
-    found: Parsed,
-    list: &mut List<Parsed>,
-) -> Result<(), NoMemory>
-    ensures keeps { OnOk result (KeepsAll list.old list.new) }
-    ensures finds { OnOk result (FindsProduct names.now text.now role (map part_shown following.now) found list.new is_negative) }
-{
-    let rest = found.rest(text);
-    let Some(number) = number_at(rest) else {
-        return Ok(());
-    };
-    if !rest[number.len..].starts_with(b" * ") {
-        return Ok(());
-    }
-    let factor = with_sign(is_negative, number.value);
-    let behind = found.past(number.len + 3).with_factor(role, factor);
-    push_named(names, text, role, following, behind, list)
-}
-
-// A name, times a factor of this sign, which is left out where it is 1.
-fn push_times(
-    names: &VarNames,
-    text: &[u8],
-    role: usize,
-    is_negative: bool,
-    following: &[Part],
-    found: Parsed,
-    list: &mut List<Parsed>,
-) -> Result<(), NoMemory>
-    ensures keeps { OnOk result (KeepsAll list.old list.new) }
-    ensures finds { OnOk result (FindsTimes names.now text.now role (map part_shown following.now) found list.new is_negative) }
-{
-    let one = found.with_factor(role, with_sign(is_negative, 1));
-    push_named(names, text, role, following, one, list)?;
-    push_product(names, text, role, is_negative, following, found, list)
-}
-
-// A further term: a sign, and a name with its factor.
-fn push_term(
-    names: &VarNames,
-    text: &[u8],
-    role: usize,
-    following: &[Part],
-    found: Parsed,
-    list: &mut List<Parsed>,
-) -> Result<(), NoMemory>
-    ensures keeps { OnOk result (KeepsAll list.old list.new) }
-    ensures finds { OnOk result (FindsTerm names.now text.now role (map part_shown following.now) found list.new) }
-{
-    match sign_at(found.rest(text)) {
-        Some(is_negative) => {
-            push_times(
-                names,
-                text,
-                role,
-                is_negative,
-                following,
-                found.past(3),
-                list,
-            )
-        }
-        None => Ok(()),
-    }
-}
-
 // What is found, if something is.
 fn push_some(found: Option<Parsed>, list: &mut List<Parsed>) -> Result<(), NoMemory>
     ensures keeps { OnOk result (KeepsAll list.old list.new) }
@@ -210,66 +95,165 @@ fn push_constant(text: &[u8], found: Parsed, list: &mut List<Parsed>) -> Result<
     )
 }
 
-// The ways in which the part can be read behind what is found, with the following parts behind it.
-pub(crate) fn push_part(
-    names: &VarNames,
-    text: &[u8],
-    part: Part,
-    following: &[Part],
-    found: Parsed,
-    list: &mut List<Parsed>,
-) -> Result<(), NoMemory>
-    ensures keeps { OnOk result (KeepsAll list.old list.new) }
-    ensures finds { OnOk result (FindsPart names.now text.now (part_shown part) (map part_shown following.now) found list.new) }
-{
-    let rest = found.rest(text);
-    match part {
-        Part::Word(word) => push_some(with_word(text, word, found), list),
-        Part::Named(role) => push_named(names, text, role, following, found, list),
-        Part::Bound => push_some(
-            number_at(rest).map(|number| Parsed {
-                bound: number.value,
-                ..found.past(number.len)
-            }),
-            list,
-        ),
-        Part::Values => push_some(
-            Some(Parsed {
-                values: found.at,
-                ..found.at_end(text)
-            }),
-            list,
-        ),
-        Part::NullOr(_) => push_some(
-            Some(Parsed {
-                code: found.at,
-                ..found.at_end(text)
-            }),
-            list,
-        ),
-        Part::Remainder => push_some(
-            number_at(rest).map(|number| Parsed {
-                remainder: number.value,
-                ..found.past(number.len)
-            }),
-            list,
-        ),
-        Part::Modulus => push_some(
-            number_at(rest).map(|number| Parsed {
-                modulus: number.value,
-                ..found.past(number.len)
-            }),
-            list,
-        ),
-        Part::Lead(role) => push_times(names, text, role, false, following, found, list),
-        Part::Term(role) => push_term(names, text, role, following, found, list),
-        Part::Constant => push_constant(text, found, list),
-        Part::Step => push_some(
-            step_at(rest).map(|step| Parsed {
-                offset: step.value,
-                ..found.past(step.len)
-            }),
-            list,
-        ),
+/// What a part is read by: the names that there are, the text, and the parts that follow.
+#[derive(Clone, Copy)]
+pub(crate) struct Context<'a> {
+    pub(crate) names: &'a VarNames,
+    pub(crate) text: &'a [u8],
+    pub(crate) following: &'a [Part],
+}
+
+impl Context<'_> {
+    // The name of a variable, which is at the role, in so many bytes, with the following parts behind it.
+    fn push_named_len(
+        &self,
+        rest: &[u8],
+        len: usize,
+        role: usize,
+        found: Parsed,
+        list: &mut List<Parsed>,
+    ) -> Result<(), NoMemory>
+        requires within { len ≤ length rest.now }
+        requires fits { found.at + len < 2 ^ 64 }
+        ensures { OnOk result (list.new ≡ (if may_be (map part_shown self.now.following.now) (drop len rest.now) then list.old ++ map (λ v. with_var role v (past len found)) (noted_under self.now.names.now (take len rest.now)) else list.old)) }
+    {
+        let (name, behind) = rest.split_at(len);
+        if may_be(self.following, behind) {
+            push_vars(self.names.under(name), role, found.past(len), list)
+        } else {
+            Ok(())
+        }
+    }
+
+    // The name of a variable, which is at the role, with the following parts behind it. Only as many bytes as some name has are looked up.
+    fn push_named(
+        &self,
+        role: usize,
+        found: Parsed,
+        list: &mut List<Parsed>,
+    ) -> Result<(), NoMemory>
+        ensures keeps { OnOk result (KeepsAll list.old list.new) }
+        ensures finds { OnOk result (FindsName self.now.names.now self.now.text.now role (map part_shown self.now.following.now) found list.new) }
+    {
+        let rest = found.rest(self.text);
+        let lengths = self.names.lengths();
+        for len in lengths {
+            if *len <= rest.len() {
+                self.push_named_len(rest, *len, role, found, list)?;
+            }
+        }
+        Ok(())
+    }
+
+    // A name with a factor of this sign in front of it.
+    fn push_product(
+        &self,
+        role: usize,
+        is_negative: bool,
+        found: Parsed,
+        list: &mut List<Parsed>,
+    ) -> Result<(), NoMemory>
+        ensures keeps { OnOk result (KeepsAll list.old list.new) }
+        ensures finds { OnOk result (FindsProduct self.now.names.now self.now.text.now role (map part_shown self.now.following.now) found list.new is_negative) }
+    {
+        let rest = found.rest(self.text);
+        let Some(number) = number_at(rest) else {
+            return Ok(());
+        };
+        if !rest[number.len..].starts_with(b" * ") {
+            return Ok(());
+        }
+        let factor = with_sign(is_negative, number.value);
+        let behind = found.past(number.len + 3).with_factor(role, factor);
+        self.push_named(role, behind, list)
+    }
+
+    // A name, times a factor of this sign, which is left out where it is 1.
+    fn push_times(
+        &self,
+        role: usize,
+        is_negative: bool,
+        found: Parsed,
+        list: &mut List<Parsed>,
+    ) -> Result<(), NoMemory>
+        ensures keeps { OnOk result (KeepsAll list.old list.new) }
+        ensures finds { OnOk result (FindsTimes self.now.names.now self.now.text.now role (map part_shown self.now.following.now) found list.new is_negative) }
+    {
+        let one = found.with_factor(role, with_sign(is_negative, 1));
+        self.push_named(role, one, list)?;
+        self.push_product(role, is_negative, found, list)
+    }
+
+    // A further term: a sign, and a name with its factor.
+    fn push_term(&self, role: usize, found: Parsed, list: &mut List<Parsed>) -> Result<(), NoMemory>
+        ensures keeps { OnOk result (KeepsAll list.old list.new) }
+        ensures finds { OnOk result (FindsTerm self.now.names.now self.now.text.now role (map part_shown self.now.following.now) found list.new) }
+    {
+        match sign_at(found.rest(self.text)) {
+            Some(is_negative) => self.push_times(role, is_negative, found.past(3), list),
+            None => Ok(()),
+        }
+    }
+
+    /// The ways in which the part can be read behind what is found, with the following parts behind it.
+    pub(crate) fn push_part(
+        &self,
+        part: Part,
+        found: Parsed,
+        list: &mut List<Parsed>,
+    ) -> Result<(), NoMemory>
+        ensures keeps { OnOk result (KeepsAll list.old list.new) }
+        ensures finds { OnOk result (FindsPart self.now.names.now self.now.text.now (part_shown part) (map part_shown self.now.following.now) found list.new) }
+    {
+        let rest = found.rest(self.text);
+        match part {
+            Part::Word(word) => push_some(with_word(self.text, word, found), list),
+            Part::Named(role) => self.push_named(role, found, list),
+            Part::Bound => push_some(
+                number_at(rest).map(|number| Parsed {
+                    bound: number.value,
+                    ..found.past(number.len)
+                }),
+                list,
+            ),
+            Part::Values => push_some(
+                Some(Parsed {
+                    values: found.at,
+                    ..found.at_end(self.text)
+                }),
+                list,
+            ),
+            Part::NullOr(_) => push_some(
+                Some(Parsed {
+                    code: found.at,
+                    ..found.at_end(self.text)
+                }),
+                list,
+            ),
+            Part::Remainder => push_some(
+                number_at(rest).map(|number| Parsed {
+                    remainder: number.value,
+                    ..found.past(number.len)
+                }),
+                list,
+            ),
+            Part::Modulus => push_some(
+                number_at(rest).map(|number| Parsed {
+                    modulus: number.value,
+                    ..found.past(number.len)
+                }),
+                list,
+            ),
+            Part::Lead(role) => self.push_times(role, false, found, list),
+            Part::Term(role) => self.push_term(role, found, list),
+            Part::Constant => push_constant(self.text, found, list),
+            Part::Step => push_some(
+                step_at(rest).map(|step| Parsed {
+                    offset: step.value,
+                    ..found.past(step.len)
+                }),
+                list,
+            ),
+        }
     }
 }

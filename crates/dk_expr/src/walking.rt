@@ -6,7 +6,7 @@ ghost use Rattle.dk_expr.specs.declared.found.Parsed.{Parsed};
 
 use crate::found::Parsed;
 use crate::names::VarNames;
-use crate::steps::push_part;
+use crate::steps::Context;
 use dk_base::{List, NoMemory};
 use dk_print::Part;
 use std::alloc::Global;
@@ -14,17 +14,15 @@ use std::alloc::Global;
 // The ways in which the part can be read behind each of what is found.
 fn behind_each(
     alloc: Global,
-    names: &VarNames,
-    text: &[u8],
+    context: &Context<'_>,
     part: Part,
-    following: &[Part],
     before: &[Parsed],
 ) -> Result<List<Parsed>, NoMemory>
-    ensures { IfOk result (λ next. (f : Parsed) → Contains before.now f → FindsPart names.now text.now (part_shown part) (map part_shown following.now) f next) }
+    ensures { IfOk result (λ next. (f : Parsed) → Contains before.now f → FindsPart context.now.names.now context.now.text.now (part_shown part) (map part_shown context.now.following.now) f next) }
 {
     let mut next = List::new(alloc);
     for found in before {
-        push_part(names, text, part, following, *found, &mut next)?;
+        context.push_part(part, *found, &mut next)?;
     }
     Ok(next)
 }
@@ -42,7 +40,12 @@ pub(crate) fn behind_all(
     match parts {
         [] => Ok(before),
         [part, following @ ..] => {
-            let next = behind_each(alloc, names, text, *part, following, before.as_slice())?;
+            let context = Context {
+                names,
+                text,
+                following,
+            };
+            let next = behind_each(alloc, &context, *part, before.as_slice())?;
             behind_all(alloc, names, text, following, next)
         }
     }

@@ -6,16 +6,16 @@ use Rattle.dk_print.specs.Shown.{part_shown}
 use Rattle.dk_expr.specs.Naming.{has_length}
 use Rattle.dk_expr.specs.declared.found.Parsed.{Parsed}
 use Rattle.dk_expr.proofs.Searching.{IsSearched, all_searched, none_searched, passed_searched, step_searched}
-use Rattle.dk_expr.proofs.steps.push_named.Goals as goal
-use Rattle.dk_expr.proofs.steps.push_named.Goals.{then-len-rest+in_ok-push_named_len, else-len-rest}
+use Rattle.dk_expr.proofs.steps.Context.push_named.Goals as goal
+use Rattle.dk_expr.proofs.steps.Context.push_named.Goals.{then-len-rest+in_ok-push_named_len, else-len-rest}
 
 pub loop-len-init : goal.loop-len-init
-loop-len-init c = none_searched c.args.names.now c.args.role (map part_shown c.args.following.now) c.args.found c.rest-rest.result.now c.args.list.now
+loop-len-init c = none_searched c.args.self.now.names.now c.args.role (map part_shown c.args.self.now.following.now) c.args.found c.rest-rest.result.now c.args.list.now
 
 pub loop-len-preserved : goal.loop-len-preserved
 loop-len-preserved c =
-    let names = c.args.names.now in
-    let following = map part_shown c.args.following.now in
+    let names = c.args.self.now.names.now in
+    let following = map part_shown c.args.self.now.following.now in
     let rest = c.rest-rest.result.now in
     let old = c.args.list.now in
     let lengths = c.lengths-lengths.result.now in
@@ -39,7 +39,7 @@ returns-clause-keeps c = c.loop-len.invariant.keeps
 
 pub returns-clause-finds : goal.returns-clause-finds
 returns-clause-finds c name more v is may known =
-    let searched = λ (lengths : List ℕ). IsSearched c.args.names.now c.args.role (map part_shown c.args.following.now) c.args.found c.rest-rest.result.now c.args.list.now c.loop-len.list lengths in
+    let searched = λ (lengths : List ℕ). IsSearched c.args.self.now.names.now c.args.role (map part_shown c.args.self.now.following.now) c.args.found c.rest-rest.result.now c.args.list.now c.loop-len.list lengths in
     let lengths = c.lengths-lengths.result.now in
-    all_searched c.args.names.now c.args.role (map part_shown c.args.following.now) c.args.found c.rest-rest.result.now c.args.list.now c.loop-len.list lengths c.lengths-lengths.ensures
+    all_searched c.args.self.now.names.now c.args.role (map part_shown c.args.self.now.following.now) c.args.found c.rest-rest.result.now c.args.list.now c.loop-len.list lengths c.lengths-lengths.ensures
     (subst searched (take_all c.loop-len.len-index lengths c.loop-len-test.false) c.loop-len.invariant) name more v (c.rest-rest.ensures ∙ is) may known

@@ -12,29 +12,29 @@ use Rattle.dk_expr.specs.Following.{past, with_factor, with_sign}
 use Rattle.dk_expr.specs.declared.numbers.Number.{Number}
 use Rattle.dk_expr.proofs.Ends.{starts_itself}
 use Rattle.dk_expr.proofs.Factors.{number_first, product_found, slice_behind}
-use Rattle.dk_expr.proofs.steps.push_product.Goals as goal
+use Rattle.dk_expr.proofs.steps.Context.push_product.Goals as goal
 
 pub returns-in_default-clause-finds : goal.returns-in_default-clause-finds
 returns-in_default-clause-finds c n name more v small is may known =
-    let ps = map part_shown c.args.following.now in
-    let front = number_first c.args.names.now c.args.text.now c.args.role ps c.args.found c.args.list.now n name more is in
+    let ps = map part_shown c.args.self.now.following.now in
+    let front = number_first c.args.self.now.names.now c.args.self.now.text.now c.args.role ps c.args.found c.args.list.now n name more is in
     let read = c.number_at.ensures.read (pos n) (codes " * " ++ (name ++ more)) small refl (c.rest-rest.ensures ∙ front) in
     absurd (cc)
 
 pub returns-then-not-starts_with-clause-finds : goal.returns-then-not-starts_with-clause-finds
 returns-then-not-starts_with-clause-finds c n name more v small is may known =
-    let ps = map part_shown c.args.following.now in
-    let front = c.rest-rest.ensures ∙ number_first c.args.names.now c.args.text.now c.args.role ps c.args.found c.args.list.now n name more is in
+    let ps = map part_shown c.args.self.now.following.now in
+    let front = c.rest-rest.ensures ∙ number_first c.args.self.now.names.now c.args.self.now.text.now c.args.role ps c.args.found c.args.list.now n name more is in
     let read = same_Some _ _ (c.in-Some.ensures.read (pos n) (codes " * " ++ (name ++ more)) small refl front) in
     let behind = slice_behind c.rest-rest.result.now (decimal n) (codes " * " ++ (name ++ more)) c.in-Some.number.len (ap (λ (x : Number). x.len) read) front in
     absurd (false≢true (sym c.if-not-starts_with.true ∙ c.starts_with.ensures.value ∙ ap (λ l. starts_with nat_eq l (codes " * ")) behind ∙ starts_itself (codes " * ") (name ++ more)))
 
 pub returns-clause-finds : goal.returns-clause-finds
 returns-clause-finds c =
-    let listed = c.args.names.now in
-    let text = c.args.text.now in
+    let listed = c.args.self.now.names.now in
+    let text = c.args.self.now.text.now in
     let role = c.args.role in
-    let ps = map part_shown c.args.following.now in
+    let ps = map part_shown c.args.self.now.following.now in
     let f = c.args.found in
     let new = c.push_named.new.list in
     let value_fits : FitsSigned w128 c.in-Some.number.value = search rules in

@@ -1,7 +1,0 @@
-use Rattle.std.specs.Prelude.{map, take}
-use Rattle.dk_print.specs.Shown.{part_shown}
-use Rattle.dk_expr.proofs.Searching.{IsSearched}
-use Rattle.dk_expr.proofs.steps.push_named.Given as goal
-
-abbrev pub invariant-loop-len : goal.invariant-loop-len
-invariant-loop-len l = IsSearched l.names l.role (map part_shown l.following) l.found l.rest l.fn.list l.list (take l.len-index l.lengths)
