@@ -200,7 +200,7 @@ impl<'a> After<'a> {
         }
     }
 
-    /// The state of a row over variables, which the sample mostly doesn't break.
+    /// The state of a row over variables, which the sample mostly doesn't break. Where it leaves the old state as it is, none is made.
     pub(crate) fn unbroken_state(&self, row: RowId, vars: &[VarId]) -> Result<State, NoMemory>
         requires row { IsRowOf self.now.whole.grammar row }
         requires vars { IsTrue (admits row self.now.whole.infos vars.now) }
@@ -209,6 +209,9 @@ impl<'a> After<'a> {
         ensures err { OnErr result (IsTrue (wants_memory row)) }
     {
         let before = self.engine.state(row, vars)?;
+        if self.state_stays(row, vars, &before) {
+            return Ok(before);
+        }
         self.with_sample(row, vars, before)
     }
 
