@@ -1,9 +1,10 @@
 -- Where a slot stands among slots in order.
-use Rattle.std.specs.Prelude.{◌≡◌, ◌==◌, ◌<◌, ◌≤◌, ◌&&◌, ◌||◌, ℕ, zero, suc, All, Bool, true, false, List, [], ◌∷◌, None, Some, drop, if◌then◌else◌, length, nat_lt, refl}
-use Rattle.std.specs.List.{AllPairs}
+use Rattle.std.specs.Prelude.{◌≡◌, ◌==◌, ◌<◌, ◌≤◌, ◌+◌, ◌&&◌, ◌||◌, ℕ, zero, suc, All, Bool, true, false, List, [], ◌∷◌, None, Some, drop, if◌then◌else◌, length, nat_lt, refl}
+use Rattle.std.specs.List.{AllPairs, AllWithin}
 use Rattle.std.specs.List.Sorted.{IsPartitionPoint, IsPartitionedBy}
 use Rattle.std.proofs.Common.{ap, ◌∙◌, arith, get_or, inl, inr, subst, sym}
 use Rattle.std.proofs.lemmas.Bool.{and_parts, cases_Bool, cases_eq, cases_lt, eq-eqb, eqb-true, false_from_ne_true, lt-ltb, ltb-true, true≢false}
+use Rattle.std.proofs.lemmas.List.{get_or_default}
 use Rattle.std.proofs.lemmas.List.Elements.{All-head, All-tail}
 use Rattle.dk_base.specs.declared.kinds.VarId.{VarId}
 use Rattle.dk_instances.specs.Instances.{Precedes}
@@ -115,6 +116,19 @@ module _ (row : RowId) (vars : List VarId) where
     | inl lt ↦ earlier (get_or slots i d) (get_or slots j d) (up i j d lt m) h
     | inr ge ↦ let same : j ≡ i = omega (arith, l, ge) in subst (λ k. is_slot_before row vars (get_or slots k d) ≡ true) same h
   ]
+
+  -- ---- halving: what a slot in the middle tells of those on one of its sides
+  pub front_to : (slots : List Slot) → AllPairs SlotBefore slots → (middle : ℕ) (a : Slot) → middle < length slots → a ≡ get_or slots middle a → is_slot_before row vars a ≡ true
+      → AllWithin (λ s. is_slot_before row vars s ≡ true) slots 0 (middle + 1)
+  front_to slots up middle a within at is = λ k d _ m.
+      let there : is_slot_before row vars (get_or slots middle d) ≡ true = ap (is_slot_before row vars) (sym (at ∙ get_or_default slots middle a d within)) ∙ is in
+      parted slots up k middle d (omega (arith, m)) within there
+
+  pub behind_from : (slots : List Slot) → AllPairs SlotBefore slots → (middle : ℕ) (a : Slot) → middle < length slots → a ≡ get_or slots middle a → is_slot_before row vars a ≡ false
+      → AllWithin (λ s. is_slot_before row vars s ≡ false) slots middle (length slots)
+  behind_from slots up middle a within at is = λ k d l m. false_from_ne_true (is_slot_before row vars (get_or slots k d)) (λ h.
+      let there : is_slot_before row vars (get_or slots middle d) ≡ false = ap (is_slot_before row vars) (sym (at ∙ get_or_default slots middle a d within)) ∙ is in
+      true≢false (sym (parted slots up middle k d l m h) ∙ there))
 
   -- ---- the place of the slot
   found_at : (slots : List Slot) (place : ℕ) (d : Slot) → ((k : ℕ) → k < place → is_slot_of row vars (get_or slots k d) ≡ false) → place < length slots → is_slot_of row vars (get_or slots place d) ≡ true

@@ -27,6 +27,7 @@ fn are_same(vs: &[VarId], ws: &[VarId]) -> bool
 }
 
 // Whether the first tuple precedes the other: at the first place at which they differ it has the earlier variable.
+#[inline(always)]
 fn precedes(vars: &[VarId], others: &[VarId]) -> bool
     ensures { result ≡ precedes vars.now others.now }
 {
@@ -42,6 +43,7 @@ fn precedes(vars: &[VarId], others: &[VarId]) -> bool
 }
 
 // Whether the slot is of an earlier row, or of the same row with leaders that precede.
+#[inline(always)]
 pub(crate) fn is_before(slot: &Slot, row: RowId, leaders: &[VarId]) -> bool
     ensures { result ≡ is_slot_before row leaders.now slot.now }
 {
@@ -55,13 +57,23 @@ fn is_slot_of(slot: &Slot, row: RowId, leaders: &[VarId]) -> bool
     slot.row.0 == row.0 && are_same(slot.leaders.as_slice(), leaders)
 }
 
-// How many slots come before the row and leaders.
+// How many slots come before the row and leaders, found by halving.
 fn place_of(slots: &[Slot], row: RowId, leaders: &[VarId]) -> usize
     requires { AllPairs SlotBefore slots.now }
     ensures within { result ≤ length slots.now }
     ensures parted { IsPartitionPoint (λ s. is_slot_before row leaders.now s ≡ true) (λ s. is_slot_before row leaders.now s ≡ false) slots.now result }
 {
-    slots.partition_point(|slot| is_before(slot, row, leaders))
+    let mut low = 0;
+    let mut high = slots.len();
+    while low < high {
+        let middle = low + (high - low) / 2;
+        if is_before(&slots[middle], row, leaders) {
+            low = middle + 1;
+        } else {
+            high = middle;
+        }
+    }
+    low
 }
 
 /// The slot of a row over leaders, among slots in order.
