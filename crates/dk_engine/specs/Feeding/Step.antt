@@ -143,11 +143,12 @@ is_of_elements row = row.0 == number.elt_lower || row.0 == number.elt_upper
 abbrev pub asks_elements : Rule → Bool
 asks_elements r = list_any (λ p. is_of_elements (row_of p)) r.1
 
--- A rule can begin to suppress the slot: it was Empty and its row has a rule, or its row has one that asks for the least or the
--- greatest element. That is EltNonZero alone.
+-- The slot was Empty, and a rule concludes its row.
 abbrev pub is_empty_conclusion : Slot → Bool
 is_empty_conclusion slot = is_empty_state slot.state && has_rule slot.row
 
+-- A rule can begin to suppress the slot: it was Empty and its row has a rule, or its row has one that asks for the least or the
+-- greatest element. That is EltNonZero alone.
 abbrev pub can_close : Slot → Bool
 can_close slot = is_empty_conclusion slot || list_any (λ (r : Rule). r.0.0 == slot.row.0 && asks_elements r) rules
 

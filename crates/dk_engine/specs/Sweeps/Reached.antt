@@ -30,6 +30,6 @@ reached_by_number = map (λ n. reached_from (record { 0 = n })) (range_with_len 
 unfoldable pub rows_reached : RowId → List RowId
 rows_reached row = slice_index_or reached_by_number row.0 []
 
--- whether a rule concludes the rows 0 to 66; none concludes a later row
+-- whether a rule concludes each row below that of planes; none concludes that of planes or a later row
 unfoldable pub concluded_by_number : List Bool
-concluded_by_number = map (λ n. has_rule (record { 0 = n })) (range_with_len 0 67)
+concluded_by_number = map (λ n. has_rule (record { 0 = n })) (range_with_len 0 number.linear_ternary)
