@@ -1,36 +1,13 @@
 -- What a search finds in an ascending list, and what an entry at that place does.
-use Rattle.std.proofs.Common.{◌≡◌, ℕ, ◌+◌, ◌-◌, ◌<◌, ◌≤◌, List, length, get_or, eqb, if◌then◌else◌, Some, None, Result, Ok, Err, IfOk, IfErr, sym, ap, ◌∙◌, subst, arith}
+use Rattle.std.proofs.Common.{◌≡◌, ℕ, ◌+◌, ◌-◌, ◌<◌, List, length, get_or, eqb, if◌then◌else◌, Some, None, sym, ap, ◌∙◌, subst, arith}
 use Rattle.std.specs.List.{insert}
-use Rattle.std.specs.List.Sorted.{IsSearchInRange, IsBinarySearchResult, IsNonDecreasingBy}
-use Rattle.std.specs.Ordering.{nat_cmp, ordering_index}
-use Rattle.std.proofs.lemmas.Cmp.{ranked}
 use Rattle.std.proofs.lemmas.List.{get_or_default}
-use Rattle.std.proofs.lemmas.List.Sorted.{IsNonDecreasingBy-from_default}
 use Rattle.std.proofs.lemmas.List.Edits.{length-insert, get_or-insert_below, get_or-insert_at, get_or-insert_above}
 use Rattle.std.proofs.lemmas.Bool.Decides.{nat_tests}
 use Rattle.dk_base.specs.declared.kinds.VarId.{VarId}
 use Rattle.dk_base.specs.declared.values.Value.{Value}
 use Rattle.dk_constants.specs.Known.{EntriesAscend, IsAt, IsGapFor, entry_var_at, known_at, none_known}
 use Rattle.dk_constants.proofs.Lookups.{known_absent, known_present, known_at-insert}
-
-module _ (known : List (VarId × Value)) (up : EntriesAscend known) (v : VarId) where
-  -- the comparisons with the variable rise along the list, as a binary search asks
-  comparisons_rise : IsNonDecreasingBy (λ entry. ordering_index (nat_cmp entry.0.0 v.0)) known
-  comparisons_rise = IsNonDecreasingBy-from_default (λ entry. ordering_index (nat_cmp entry.0.0 v.0)) known none_known (λ i j le within.
-      let rise : entry_var_at known i ≤ entry_var_at known j = grind (arith, up i j, λ (same : i ≡ j). ap (entry_var_at known) same) in
-      grind (arith, nat_tests))
-
-  -- a binary search ends at the variable, or at the gap for it
-  pub searched : (r : Result ℕ ℕ) → IsSearchInRange r (length known) → IsBinarySearchResult (λ entry. nat_cmp entry.0.0 v.0) known r → record { found : IfOk r (IsAt known v); absent : IfErr r (IsGapFor known v) }
-  searched (Ok at) within equal = record { found = record { within = within; var = ranked _ v.0 _ (sym (equal none_known)) }; absent = tt }
-  searched (Err at) within parted = record {
-    found = tt;
-    absent = record {
-      within = within;
-      lesser = λ j lt. ranked _ v.0 _ (sym ((parted comparisons_rise).0 j none_known (omega arith) lt));
-      greater = λ j le lt. ranked _ v.0 _ (sym ((parted comparisons_rise).1 j none_known le lt));
-    };
-  }
 
 module _ (known : List (VarId × Value)) (up : EntriesAscend known) (v : VarId) (i : ℕ) (at : IsAt known v i) where
   -- the variable is known by the entry at its place

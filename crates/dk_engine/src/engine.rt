@@ -1,5 +1,5 @@
 // The engine of a point.
-ghost use Rattle.std.specs.Prelude.{◌≡◌, ◌↔◌, ◌<◌, ◌≤◌, suc, true, [], IfOk, IfSome, IsTrue, List, OnErr, length};
+ghost use Rattle.std.specs.Prelude.{◌≡◌, ◌↔◌, ◌<◌, ◌≤◌, suc, false, [], IfOk, IfSome, IsTrue, List, OnErr, length};
 ghost use Rattle.dk_base.specs.Values.{values_of};
 ghost use Rattle.dk_base.specs.declared.kinds.VarId.{VarId};
 ghost use Rattle.dk_base.specs.declared.kinds.VarInfo.{VarInfo};
@@ -28,6 +28,9 @@ use dk_presence::Presence;
 use dk_template::{Answers, Grammar, RowId, State, Tuple, is_written};
 use std::alloc::Global;
 use std::marker::Model;
+
+// What an engine answers of rows of each rank: each level asks the one below it.
+type Levels<'a> = Over<'a, Over<'a, Over<'a, Over<'a, Nothing<'a>>>>>;
 
 /// The engine of a point: what it keeps of the point's samples, and what it answers from that alone.
 #[derive(Drop)]
@@ -192,22 +195,9 @@ impl Engine {
         }
     }
 
-    // Whether the leaders are constant, and in the row's written order.
-    fn are_written_constants(&self, row: RowId, leaders: &[VarId]) -> bool
-        requires { IsRowOf self.now.grammar row }
-        ensures written { IsTrue result → IsTrue (is_written row leaders.now) }
-        ensures known { IsTrue result → all_known self.now.kept.known leaders.now ≡ true }
-    {
-        is_written(row, leaders) && are_known(&self.kept.known, leaders)
-    }
-
-    // The state of a row over leaders in any order.
-    fn state_of_leaders(&self, row: RowId, leaders: &[VarId]) -> Result<State, NoMemory>
-        requires row { IsRowOf self.now.grammar row }
-        requires leaders { IsTrue (admits row self.now.infos leaders.now) }
-        ensures state { IfOk result (λ s. s ≡ read_leaders rank_bound self.now.kept row leaders.now) }
-        ensures proper { IfOk result (λ s. IsProper (form_of row) s) }
-        ensures err { OnErr result (IsTrue (wants_memory row)) }
+    // What the engine answers of rows of all ranks.
+    fn levels(&self) -> Levels<'_>
+        ensures { result ≡ record { grammar = self.now.grammar; infos = self.now.infos; kept = self.now.kept; ranks = rank_bound } }
     {
         let lowest = self.over(
             None,
@@ -218,8 +208,31 @@ impl Engine {
                 kept: &self.kept,
             },
         );
-        let levels = self.over(None, 3, self.over(None, 2, self.over(None, 1, lowest)));
-        levels.state(row, leaders)
+        self.over(None, 3, self.over(None, 2, self.over(None, 1, lowest)))
+    }
+
+    // The state of a row over leaders in any order.
+    fn state_of_leaders(&self, row: RowId, leaders: &[VarId]) -> Result<State, NoMemory>
+        requires row { IsRowOf self.now.grammar row }
+        requires leaders { IsTrue (admits row self.now.infos leaders.now) }
+        ensures state { IfOk result (λ s. s ≡ read_leaders rank_bound self.now.kept row leaders.now) }
+        ensures proper { IfOk result (λ s. IsProper (form_of row) s) }
+        ensures err { OnErr result (IsTrue (wants_memory row)) }
+    {
+        self.levels().state(row, leaders)
+    }
+
+    // The state of a row over leaders in its written order that aren't all constant.
+    fn state_of_varying(&self, row: RowId, leaders: &[VarId]) -> Result<State, NoMemory>
+        requires row { IsRowOf self.now.grammar row }
+        requires leaders { IsTrue (admits row self.now.infos leaders.now) }
+        requires written { IsTrue (is_written row leaders.now) }
+        requires varying { all_known self.now.kept.known leaders.now ≡ false }
+        ensures state { IfOk result (λ s. s ≡ read_leaders rank_bound self.now.kept row leaders.now) }
+        ensures proper { IfOk result (λ s. IsProper (form_of row) s) }
+        ensures err { OnErr result (IsTrue (wants_memory row)) }
+    {
+        self.levels().state_of_varying(row, leaders)
     }
 
     /// The state of a row over variables, told without memory but for the rows that want it. Of constants no slot is sought.
@@ -235,10 +248,13 @@ impl Engine {
         }
         let tuple = self.leaders_of(vars);
         let leaders = tuple.as_slice();
-        if self.are_written_constants(row, leaders) {
+        if !is_written(row, leaders) {
+            return self.state_of_leaders(row, leaders);
+        }
+        if are_known(&self.kept.known, leaders) {
             return constant_state(self.alloc, &self.kept.known, row, leaders);
         }
-        self.state_of_leaders(row, leaders)
+        self.state_of_varying(row, leaders)
     }
 }
 

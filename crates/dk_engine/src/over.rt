@@ -4,12 +4,13 @@ ghost use Rattle.dk_base.specs.declared.kinds.VarInfo.{VarInfo};
 ghost use Rattle.dk_forms.specs.declared.states.State.{State};
 ghost use Rattle.dk_presence.specs.Patterns.{counted_by};
 ghost use Rattle.dk_suppress.specs.Soundness.{holds_of};
-ghost use Rattle.dk_template.specs.Admitted.{admits};
+ghost use Rattle.dk_template.specs.Admitted.{admits, is_written};
 ghost use Rattle.dk_template.specs.Proper.{IsProper};
 ghost use Rattle.dk_template.specs.Templates.{IsRowOf, form_of};
 ghost use Rattle.dk_template.specs.declared.grammar.Grammar.{Grammar};
 ghost use Rattle.dk_engine.specs.Reading.{agree_read, read_leaders, read_written};
 ghost use Rattle.dk_engine.specs.Reading.Memory.{wants_memory};
+ghost use Rattle.dk_engine.specs.Reading.Parts.{all_known};
 ghost use Rattle.dk_engine.specs.Saved.Conditions.{CanBeRead};
 
 pub(crate) mod constant;
@@ -87,6 +88,17 @@ impl<'a, B: Answers> Over<'a, B> {
         if are_known(&self.kept.known, vars) {
             return constant_state(self.alloc, &self.kept.known, row, vars);
         }
+        self.state_sought(row, vars)
+    }
+
+    // The state of leaders in the row's written order that aren't all constant.
+    fn state_sought(&self, row: RowId, vars: &[VarId]) -> Result<State, NoMemory>
+        requires row { IsRowOf self.now.grammar row }
+        requires vars { IsTrue (admits row self.now.infos vars.now) }
+        requires varying { all_known self.now.kept.known vars.now ≡ false }
+        ensures state { IfOk result (λ s. s ≡ read_written self.now.kept (read_leaders (self.now.ranks - 1) self.now.kept) row vars.now) }
+        ensures err { OnErr result (IsTrue (wants_memory row)) }
+    {
         match find(self.kept.slots.as_slice(), row, vars) {
             Some(slot) => slot.state.copy(self.alloc),
             None => Ok(if suppressed(row, vars, &self.lower) {
@@ -110,6 +122,21 @@ impl<'a, B: Answers> Over<'a, B> {
         let ordered = written_order(row, vars);
         let state = self.state_written(row, ordered.as_slice())?;
         Ok(turn_state(row, vars, state))
+    }
+
+    /// The state of leaders in the row's written order that aren't all constant: of a slot, or as the rules tell.
+    pub(crate) fn state_of_varying(&self, row: RowId, vars: &[VarId]) -> Result<State, NoMemory>
+        requires row { IsRowOf self.now.grammar row }
+        requires vars { IsTrue (admits row self.now.infos vars.now) }
+        requires written { IsTrue (is_written row vars.now) }
+        requires varying { all_known self.now.kept.known vars.now ≡ false }
+        ensures state { IfOk result (λ s. s ≡ read_leaders self.now.ranks self.now.kept row vars.now) }
+        ensures proper { IfOk result (λ s. IsProper (form_of row) s) }
+        ensures err { OnErr result (IsTrue (wants_memory row)) }
+    {
+        // What holds of the level is known once something of it is read.
+        let _kept = self.kept;
+        self.state_sought(row, vars)
     }
 
     /// The state of leaders in any order. Where they are in the row's written order, nothing is turned.

@@ -262,6 +262,9 @@ impl<'a> After<'a> {
         requires proper { IsProper (form_of row) state.now }
         ensures { IsTrue result ↔ (with_sample row vars.now self.now.sample state.now ≡ state.now) }
     {
+        if matches!(state, State::Broken) {
+            return true;
+        }
         let sample = self.sample;
         match vars {
             [v] => self.values_stay(row, vars, state, &[value_at(sample, *v)]),

@@ -1,5 +1,5 @@
 // Leaders by the roles that they suit.
-ghost use Rattle.std.specs.Prelude.{◌≡◌, [], ◌∷◌, IfOk, IfSome, Some, length, map, slice_get};
+ghost use Rattle.std.specs.Prelude.{◌≡◌, ◌≢◌, [], ◌∷◌, IfOk, IfSome, Some, length, map, slice_get};
 ghost use Rattle.dk_template.specs.Admitted.{suits};
 ghost use Rattle.dk_engine.specs.Sweeps.Suited.{all_roles, suited_vars};
 
@@ -97,13 +97,13 @@ fn by_role(alloc: Global, infos: &[VarInfo], of: &[VarId]) -> Result<Vec<List<Va
     Ok(lists)
 }
 
-/// Leaders, and for each role those of them that suit it.
+/// Leaders, and for each role those of them that suit it. Of a single leader no lists are made.
 #[derive(Drop)]
 pub(crate) struct Suited<'a> {
     infos: &'a [VarInfo],
     all: List<VarId>,
     lists: Vec<List<VarId>>,
-    ghost by_role: { lists.items ≡ map (λ role. suited_vars role infos.now all) all_roles },
+    ghost by_role: { length all ≢ 1 → lists.items ≡ map (λ role. suited_vars role infos.now all) all_roles },
 }
 
 impl<'a> Suited<'a> {
@@ -116,9 +116,17 @@ impl<'a> Suited<'a> {
         ensures infos { IfOk result (λ s. s.infos.now ≡ infos.now) }
         ensures all { IfOk result (λ s. s.all ≡ leaders.now) }
     {
+        let all = List::from_slice(alloc, leaders)?;
+        if leaders.len() == 1 {
+            return Ok(Suited {
+                infos,
+                all,
+                lists: Vec::new(alloc),
+            });
+        }
         Ok(Suited {
             infos,
-            all: List::from_slice(alloc, leaders)?,
+            all,
             lists: by_role(alloc, infos, leaders)?,
         })
     }
@@ -127,6 +135,9 @@ impl<'a> Suited<'a> {
     pub(crate) fn at(&self, role: Role) -> &[VarId]
         ensures { result.now ≡ suited_vars role self.now.infos.now self.now.all }
     {
+        if self.all.len() == 1 {
+            return suited_one(role, self.infos, self.all.as_slice());
+        }
         match self.lists.as_slice().get(place_of(role)) {
             Some(list) => list.as_slice(),
             None => unreachable!(),

@@ -17,4 +17,4 @@ returns c =
     let s = c.args.self.now in
     let f : Role → List VarId = λ role. suited_vars role s.infos.now s.all in
     c.as_slice-in-Some.ensures
-    ∙ mapped_at f all_roles c.as_slice.result.now c.place_of.result c.args.role c.in-Some.list.now (c.as_slice.ensures.value ∙ s.by_role) c.place_of.ensures (ltb-true _ _ (sym c.in-Some.ensures.lookup.0)) c.in-Some.ensures.lookup.1
+    ∙ mapped_at f all_roles c.as_slice-2.result.now c.place_of.result c.args.role c.in-Some.list.now (c.as_slice-2.ensures.value ∙ s.by_role (λ one. c.if-len-eq1.false (c.len.ensures ∙ one))) c.place_of.ensures (ltb-true _ _ (sym c.in-Some.ensures.lookup.0)) c.in-Some.ensures.lookup.1
