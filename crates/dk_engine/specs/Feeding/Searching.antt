@@ -1,10 +1,10 @@
 -- A search for the slots that a sample changes.
-use Rattle.std.specs.Prelude.{◌≡◌, ◌<◌, ◌≤◌, ℕ, Bool, List}
+use Rattle.std.specs.Prelude.{◌≡◌, ◌<◌, ◌≤◌, ℕ, Bool, List, true}
 use Rattle.dk_base.specs.declared.values.Value.{Value}
 use Rattle.dk_forms.specs.declared.states.State.{State}
 use Rattle.dk_template.specs.declared.grammar.RowId.{RowId}
 use Rattle.dk_engine.specs.Feeding.{read_after, with_sample}
-use Rattle.dk_engine.specs.Feeding.Narrow.{AreFound, AreFoundBelow, outcome}
+use Rattle.dk_engine.specs.Feeding.Narrow.{AreFound, AreFoundBelow, is_in_run, outcome}
 use Rattle.dk_engine.specs.Idle.{PassesStill}
 use Rattle.dk_engine.specs.Reading.Levels.{OneMore}
 use Rattle.dk_engine.specs.Reading.Parts.{slot_in}
@@ -41,6 +41,10 @@ Finds search found = AreFound (made_by search) search.slots found
 -- they are of the row
 abbrev pub AreOfRow : RowId → List Slot → ℕ → ℕ → Type 0
 AreOfRow row slots from to = (k : ℕ) → from ≤ k → k < to → (slot_in slots k).row ≡ row
+
+-- they are of the row of the first, and where it is asked none of them can close
+abbrev pub AreRun : Bool → List Slot → ℕ → ℕ → Type 0
+AreRun asked slots from to = (k : ℕ) → from ≤ k → k < to → is_in_run asked (slot_in slots from).row (slot_in slots k) ≡ true
 
 -- if a slot is of the row, the sample leaves its state as it is
 abbrev pub IsStill : RowId → List Value → Slot → Type 0

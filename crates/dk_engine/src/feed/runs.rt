@@ -5,7 +5,7 @@ ghost use Rattle.dk_base.specs.Values.{values_of};
 ghost use Rattle.dk_engine.specs.Exact.{SlotBefore};
 ghost use Rattle.dk_engine.specs.Feeding.{with_sample};
 ghost use Rattle.dk_engine.specs.Feeding.Narrow.{is_in_run};
-ghost use Rattle.dk_engine.specs.Feeding.Searching.{AreOfRow, AreStill};
+ghost use Rattle.dk_engine.specs.Feeding.Searching.{AreOfRow, AreRun, AreStill};
 ghost use Rattle.dk_engine.specs.Idle.{skip_in};
 ghost use Rattle.dk_engine.specs.Reading.Parts.{slot_in};
 ghost use Rattle.dk_engine.specs.declared.slots.slot.Slot.{Slot};
@@ -37,7 +37,7 @@ fn row_end(slots: &[Slot], place: usize) -> usize
     requires within { place < length slots.now }
     ensures from { place < result }
     ensures to { result ≤ length slots.now }
-    ensures of_row { (k : ℕ) → place ≤ k → k < result → (slot_in slots.now k).row ≡ (slot_in slots.now place).row }
+    ensures of_row { AreOfRow (slot_in slots.now place).row slots.now place result }
 {
     let end = rows_end(slots, slots[place].row);
     if end - place <= REACH {
@@ -52,7 +52,7 @@ fn are_of_row(slots: &[Slot], place: usize, end: usize) -> bool
     requires in_order { AllPairs SlotBefore slots.now }
     requires from { place < end }
     requires to { end ≤ length slots.now }
-    ensures { IsTrue result → (k : ℕ) → place ≤ k → k < end → (slot_in slots.now k).row ≡ (slot_in slots.now place).row }
+    ensures { IsTrue result → AreOfRow (slot_in slots.now place).row slots.now place end }
 {
     let last = end - 1;
     slots[last].row.0 == slots[place].row.0
@@ -63,7 +63,7 @@ fn is_end(slots: &[Slot], place: usize, end: usize) -> bool
     requires { AllPairs SlotBefore slots.now }
     ensures from { IsTrue result → place < end }
     ensures to { IsTrue result → end ≤ length slots.now }
-    ensures of_row { IsTrue result → (k : ℕ) → place ≤ k → k < end → (slot_in slots.now k).row ≡ (slot_in slots.now place).row }
+    ensures of_row { IsTrue result → AreOfRow (slot_in slots.now place).row slots.now place end }
 {
     if end <= place {
         return false;
@@ -80,7 +80,7 @@ fn end_of_row(ends: &[usize], slots: &[Slot], place: usize) -> usize
     requires within { place < length slots.now }
     ensures from { place < result }
     ensures to { result ≤ length slots.now }
-    ensures of_row { (k : ℕ) → place ≤ k → k < result → (slot_in slots.now k).row ≡ (slot_in slots.now place).row }
+    ensures of_row { AreOfRow (slot_in slots.now place).row slots.now place result }
 {
     let end = skip_at(ends, place);
     if is_end(slots, place, end) {
@@ -116,7 +116,7 @@ fn open_end(slots: &[Slot], place: usize) -> usize
     requires { place < length slots.now }
     ensures from { place ≤ result }
     ensures to { result ≤ length slots.now }
-    ensures run { (k : ℕ) → place ≤ k → k < result → is_in_run true (slot_in slots.now place).row (slot_in slots.now k) ≡ true }
+    ensures run { AreRun true slots.now place result }
 {
     let row = slots[place].row;
     let to = reach_of(slots, place);
@@ -185,7 +185,7 @@ impl<'a> Search<'a> {
         requires { place < length self.now.slots }
         ensures from { place ≤ result }
         ensures to { result ≤ length self.now.slots }
-        ensures run { (k : ℕ) → place ≤ k → k < result → is_in_run self.now.asked (slot_in self.now.slots place).row (slot_in self.now.slots k) ≡ true }
+        ensures run { AreRun self.now.asked self.now.slots place result }
     {
         if self.asked {
             open_end(self.slots, place)

@@ -1,11 +1,11 @@
 // The search for the slots that a sample changes.
-ghost use Rattle.std.specs.Prelude.{◌≡◌, ◌<◌, ◌≤◌, ◌+◌, ◌++◌, ◌∷◌, ◌&&◌, ℕ, [], true, false, IfNone, IfOk, IfSome, OnOk, length};
+ghost use Rattle.std.specs.Prelude.{◌≡◌, ◌<◌, ◌≤◌, ◌+◌, ◌++◌, ◌∷◌, ◌&&◌, ℕ, [], false, IfNone, IfOk, IfSome, OnOk, length};
 ghost use Rattle.dk_base.specs.Values.{values_of};
 ghost use Rattle.dk_template.specs.Proper.{IsProper};
 ghost use Rattle.dk_template.specs.Templates.{form_of};
 ghost use Rattle.dk_engine.specs.Feeding.{read_after, with_sample};
-ghost use Rattle.dk_engine.specs.Feeding.Narrow.{StateStays, closes, is_in_run, outcome};
-ghost use Rattle.dk_engine.specs.Feeding.Searching.{Finds, FindsBelow};
+ghost use Rattle.dk_engine.specs.Feeding.Narrow.{StateStays, closes, outcome};
+ghost use Rattle.dk_engine.specs.Feeding.Searching.{AreRun, Finds, FindsBelow};
 ghost use Rattle.dk_engine.specs.Feeding.Step.{IsPlaced, can_close};
 ghost use Rattle.dk_engine.specs.Idle.{PassesStill};
 ghost use Rattle.dk_engine.specs.Reading.Parts.{slot_in};
@@ -156,7 +156,8 @@ impl<'a> Search<'a> {
         Ok(())
     }
 
-    // With what the sample makes of the slot at a place, which can't close where it is asked, behind what it makes of those in front of it.
+    // With what the sample makes of the slot at a place, which can't close where it is asked, behind what it makes of those in front of
+    // it.
     #[inline(always)]
     fn push_found(
         &self,
@@ -180,8 +181,8 @@ impl<'a> Search<'a> {
         }
     }
 
-    // With what the sample makes of the slots from a place up to another, which can't close where it is asked, behind what it makes of those
-    // in front of them. Slots that are passed over aren't looked at, the others one by one.
+    // With what the sample makes of the slots from a place up to another, which can't close where it is asked, behind what it makes of
+    // those in front of them. Slots that are passed over aren't looked at, the others one by one.
     fn add_seen(&self, from: usize, to: usize, found: &mut SlotChanges) -> Result<(), NoMemory>
         requires from { from ≤ to }
         requires to { to ≤ length self.now.slots }
@@ -204,7 +205,7 @@ impl<'a> Search<'a> {
     fn add_changes(&self, from: usize, to: usize, found: &mut SlotChanges) -> Result<(), NoMemory>
         requires from { from < to }
         requires to { to ≤ length self.now.slots }
-        requires run { (k : ℕ) → from ≤ k → k < to → is_in_run self.now.asked (slot_in self.now.slots from).row (slot_in self.now.slots k) ≡ true }
+        requires run { AreRun self.now.asked self.now.slots from to }
         requires below { FindsBelow self.now from found.old }
         ensures { OnOk result (FindsBelow self.now to found.new) }
     {

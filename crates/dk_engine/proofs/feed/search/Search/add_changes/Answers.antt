@@ -1,12 +1,12 @@
-use Rattle.std.specs.Prelude.{◌≡◌, ◌<◌, ◌≤◌, ◌+◌, ℕ, List, length, slice_index_or, true}
+use Rattle.std.specs.Prelude.{◌≡◌, ◌<◌, ◌≤◌, ◌+◌, ℕ, List, length, slice_index_or}
 use Rattle.std.proofs.Common.{ap, ◌∙◌, arith, subst, sym}
 use Rattle.std.proofs.lemmas.List.{get_or_default}
 use Rattle.dk_template.specs.declared.grammar.RowId.{RowId}
 use Rattle.dk_engine.proofs.Grown.{found_stay}
 use Rattle.dk_engine.proofs.Running.{of_row, shut_of_run, stays_of_still}
 use Rattle.dk_engine.specs.Feeding.{read_after}
-use Rattle.dk_engine.specs.Feeding.Narrow.{StayBetween, is_in_run}
-use Rattle.dk_engine.specs.Feeding.Searching.{AreOfRow, AreStill, CanBeSearched, IsStill, Searched, made_by}
+use Rattle.dk_engine.specs.Feeding.Narrow.{StayBetween}
+use Rattle.dk_engine.specs.Feeding.Searching.{AreOfRow, AreRun, AreStill, CanBeSearched, IsStill, Searched, made_by}
 use Rattle.dk_engine.specs.Reading.Levels.{OneMore}
 use Rattle.dk_engine.specs.Reading.Parts.{no_slot, slot_in}
 use Rattle.dk_engine.specs.declared.slots.slot.Slot.{Slot}
@@ -17,8 +17,7 @@ at_hand : (slots own : List Slot) → own ≡ slots → (place : ℕ) → place 
 at_hand slots own same place within item = ap (λ ss. slice_index_or ss place item) same ∙ get_or_default slots place item no_slot within
 
 -- a run of slots, from a place up to another, of which the first lies at hand
-module _ (s : Searched) (own : List Slot) (same : own ≡ s.slots) (from to : ℕ) (item : Slot) (within : from < length s.slots)
-    (run : (k : ℕ) → from ≤ k → k < to → is_in_run s.asked (slot_in s.slots from).row (slot_in s.slots k) ≡ true) where
+module _ (s : Searched) (own : List Slot) (same : own ≡ s.slots) (from to : ℕ) (item : Slot) (within : from < length s.slots) (run : AreRun s.asked s.slots from to) where
   row_at_hand : (slice_index_or own from item).row ≡ (slot_in s.slots from).row
   row_at_hand = ap (λ (i : Slot). i.row) (at_hand s.slots own same from within item)
 

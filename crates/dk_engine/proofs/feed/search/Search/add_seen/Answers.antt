@@ -6,7 +6,6 @@ use Rattle.dk_engine.proofs.Running.{passed_stay}
 use Rattle.dk_engine.specs.Feeding.{read_after}
 use Rattle.dk_engine.specs.Feeding.Narrow.{StayBetween}
 use Rattle.dk_engine.specs.Feeding.Searching.{CanBeSearched, Searched, made_by}
-use Rattle.dk_engine.specs.Feeding.Step.{Answer}
 use Rattle.dk_engine.specs.Idle.{skip_in}
 use Rattle.dk_engine.specs.Reading.Levels.{OneMore}
 use Rattle.dk_engine.specs.Reading.Parts.{no_slot, slot_in}
