@@ -21,14 +21,11 @@ use Rattle.dk_template.specs.declared.grammar.RowId.{RowId}
 use Rattle.dk_engine.specs.Exact.{SlotBefore}
 use Rattle.dk_engine.specs.Feeding.{with_sample}
 use Rattle.dk_engine.specs.Feeding.Narrow.{StateStays, StayBetween, is_in_run, outcome}
+use Rattle.dk_engine.specs.Feeding.Searching.{AreStill, IsStill}
 use Rattle.dk_engine.specs.Feeding.Step.{Answer, IsPlaced, can_close}
 use Rattle.dk_engine.specs.Idle.{PassesStill, skip_in}
 use Rattle.dk_engine.specs.Reading.Parts.{no_slot, slot_in}
 use Rattle.dk_engine.specs.declared.slots.slot.Slot.{Slot}
-
--- the sample leaves a slot's state of the row as it is
-abbrev pub IsStill : RowId → List Value → Slot → Type 0
-IsStill row sample s = with_sample row s.leaders sample s.state ≡ s.state
 
 -- an item that is found is there
 there : (P : Slot → Type 0) (slots : List Slot) (n : ℕ) → IsSomeAnd (slice_get slots n) P → n < length slots
@@ -163,10 +160,7 @@ module _ (asked : Bool) (after : Answer) (sample : List Value) (slots : List Slo
     whole k no_slot (omega (arith, b, last, most)),
   )
 
--- slots from a place up to another that the sample leaves as they are, if they are of the row
-abbrev pub AreStill : RowId → List Value → List Slot → ℕ → ℕ → Type 0
-AreStill row sample slots from to = (k : ℕ) → from ≤ k → k < to → IsStill row sample (slot_in slots k)
-
+-- so do those of a row
 module _ (row : RowId) (sample : List Value) (slots : List Slot) where
   pub still_on : (from at to : ℕ) → AreStill row sample slots from at → AreStill row sample slots at to → AreStill row sample slots from to
   still_on from at to before behind k first last = elim (cases_lt k at) as (λ _. IsStill row sample (slot_in slots k)) [

@@ -1,6 +1,7 @@
 -- What a sample makes of the slots.
 pub mod Merged
 pub mod Narrow
+pub mod Searching
 pub mod Step
 use Rattle.std.specs.Prelude.{◌≡◌, ◌<◌, ◌+◌, ◌&&◌, ℕ, Bool, true, false, not, List, [], ◌∷◌, filter, flat_map, map, if◌then◌else◌}
 use Rattle.dk_base.specs.declared.kinds.VarId.{VarId}

@@ -23,15 +23,15 @@ pub(crate) mod now;
 pub(crate) mod operations;
 mod rising;
 mod runs;
+mod search;
 pub(crate) mod staying;
 pub(crate) mod taking;
 
 use crate::feed::after::After;
-use crate::feed::changes::{
-    Change, SlotChanges, changes, few_changes, lose_some, lost_places, some_may_begin,
-};
+use crate::feed::changes::{Change, SlotChanges, lose_some, lost_places, some_may_begin};
 use crate::feed::changing::apply_changes;
 use crate::feed::merging::merge_slots;
+use crate::feed::search::Search;
 use crate::sweeps::Sweep;
 use crate::sweeps::counting::are_many;
 use crate::sweeps::suited::Suited;
@@ -123,7 +123,8 @@ impl Engine {
         let after = After::of(self.alloc, self, sample);
         let slots = self.kept.slots.as_slice();
         let skips = self.skips(sample);
-        match few_changes(self.alloc, &after, new, skips, slots)? {
+        let search = Search::of(&after, new, skips, slots);
+        match search.few_changes()? {
             Some(all) => {
                 if lose_some(slots, all.changes.as_slice()) {
                     return Ok(None);
@@ -182,7 +183,8 @@ impl Engine {
     {
         let after = After::of(self.alloc, self, sample);
         let skips = self.skips(sample);
-        changes(self.alloc, &after, true, skips, self.kept.slots.as_slice())
+        let search = Search::of(&after, true, skips, self.kept.slots.as_slice());
+        search.all_changes()
     }
 
     // The places of the slots by which a premise is lost.

@@ -1,22 +1,20 @@
 // Runs of slots that a sample leaves as they are, found without looking at the row of each.
-ghost use Rattle.std.specs.Prelude.{◌≡◌, ◌<◌, ◌≤◌, ℕ, true, All, IsTrue, length};
+ghost use Rattle.std.specs.Prelude.{◌≡◌, ◌<◌, ◌≤◌, ℕ, true, IsTrue, length};
 ghost use Rattle.std.specs.List.{AllPairs};
 ghost use Rattle.dk_base.specs.Values.{values_of};
-ghost use Rattle.dk_base.specs.declared.kinds.VarId.{VarId};
 ghost use Rattle.dk_engine.specs.Exact.{SlotBefore};
 ghost use Rattle.dk_engine.specs.Feeding.{with_sample};
 ghost use Rattle.dk_engine.specs.Feeding.Narrow.{is_in_run};
-ghost use Rattle.dk_engine.specs.Feeding.Step.{IsPlaced};
-ghost use Rattle.dk_engine.specs.Idle.{PassesStill, skip_in};
+ghost use Rattle.dk_engine.specs.Feeding.Searching.{AreOfRow, AreRun, AreStill};
+ghost use Rattle.dk_engine.specs.Idle.{skip_in};
 ghost use Rattle.dk_engine.specs.Reading.Parts.{slot_in};
 ghost use Rattle.dk_engine.specs.declared.slots.slot.Slot.{Slot};
 ghost use Rattle.dk_grammar.specs.Runs.{AreSlots};
-ghost use Rattle.dk_template.specs.Proper.{IsProper};
-ghost use Rattle.dk_template.specs.Templates.{IsRow, form_of};
+ghost use Rattle.dk_template.specs.Templates.{IsRow};
 
 use crate::Slot;
-use crate::feed::after::After;
 use crate::feed::changes::can_close;
+use crate::feed::search::Search;
 use crate::idle::ends::REACH;
 use crate::idle::{is_passed, skip_at};
 use dk_base::View;
@@ -39,7 +37,7 @@ fn row_end(slots: &[Slot], place: usize) -> usize
     requires within { place < length slots.now }
     ensures from { place < result }
     ensures to { result ≤ length slots.now }
-    ensures of_row { (k : ℕ) → place ≤ k → k < result → (slot_in slots.now k).row ≡ (slot_in slots.now place).row }
+    ensures of_row { AreOfRow (slot_in slots.now place).row slots.now place result }
 {
     let end = rows_end(slots, slots[place].row);
     if end - place <= REACH {
@@ -54,7 +52,7 @@ fn are_of_row(slots: &[Slot], place: usize, end: usize) -> bool
     requires in_order { AllPairs SlotBefore slots.now }
     requires from { place < end }
     requires to { end ≤ length slots.now }
-    ensures { IsTrue result → (k : ℕ) → place ≤ k → k < end → (slot_in slots.now k).row ≡ (slot_in slots.now place).row }
+    ensures { IsTrue result → AreOfRow (slot_in slots.now place).row slots.now place end }
 {
     let last = end - 1;
     slots[last].row.0 == slots[place].row.0
@@ -65,7 +63,7 @@ fn is_end(slots: &[Slot], place: usize, end: usize) -> bool
     requires { AllPairs SlotBefore slots.now }
     ensures from { IsTrue result → place < end }
     ensures to { IsTrue result → end ≤ length slots.now }
-    ensures of_row { IsTrue result → (k : ℕ) → place ≤ k → k < end → (slot_in slots.now k).row ≡ (slot_in slots.now place).row }
+    ensures of_row { IsTrue result → AreOfRow (slot_in slots.now place).row slots.now place end }
 {
     if end <= place {
         return false;
@@ -82,7 +80,7 @@ fn end_of_row(ends: &[usize], slots: &[Slot], place: usize) -> usize
     requires within { place < length slots.now }
     ensures from { place < result }
     ensures to { result ≤ length slots.now }
-    ensures of_row { (k : ℕ) → place ≤ k → k < result → (slot_in slots.now k).row ≡ (slot_in slots.now place).row }
+    ensures of_row { AreOfRow (slot_in slots.now place).row slots.now place result }
 {
     let end = skip_at(ends, place);
     if is_end(slots, place, end) {
@@ -118,7 +116,7 @@ fn open_end(slots: &[Slot], place: usize) -> usize
     requires { place < length slots.now }
     ensures from { place ≤ result }
     ensures to { result ≤ length slots.now }
-    ensures run { (k : ℕ) → place ≤ k → k < result → is_in_run true (slot_in slots.now place).row (slot_in slots.now k) ≡ true }
+    ensures run { AreRun true slots.now place result }
 {
     let row = slots[place].row;
     let to = reach_of(slots, place);
@@ -128,22 +126,6 @@ fn open_end(slots: &[Slot], place: usize) -> usize
         }
     }
     to
-}
-
-/// Where the run of slots from a place on ends, of as many as are taken together: slots of one row that, where it is asked, can't
-/// close.
-pub(crate) fn run_end(asked: bool, ends: &[usize], slots: &[Slot], place: usize) -> usize
-    requires in_order { AllPairs SlotBefore slots.now }
-    requires within { place < length slots.now }
-    ensures from { place ≤ result }
-    ensures to { result ≤ length slots.now }
-    ensures run { (k : ℕ) → place ≤ k → k < result → is_in_run asked (slot_in slots.now place).row (slot_in slots.now k) ≡ true }
-{
-    if asked {
-        open_end(slots, place)
-    } else {
-        end_of_row(ends, slots, place)
-    }
 }
 
 // How many slots of a run of one row come before the first of which the sample changes the state.
@@ -177,21 +159,6 @@ pub(crate) fn passed_to(skips: &[usize], from: usize, to: usize) -> usize
     }
 }
 
-// Up to where the slots of a row from one place to another stay as they are.
-fn run_to(after: &After<'_>, row: RowId, slots: &[Slot], from: usize, to: usize) -> usize
-    requires row { IsRow row }
-    requires placed { All (λ slot. IsPlaced after.now.whole.grammar after.now.whole.infos after.now.whole.kept.leaders slot.row slot.leaders) slots.now }
-    requires proper { All (λ slot. IsProper (form_of slot.row) slot.state) slots.now }
-    requires from { from ≤ to }
-    requires to { to ≤ length slots.now }
-    requires of_row { (k : ℕ) → from ≤ k → k < to → (slot_in slots.now k).row ≡ row }
-    ensures from { from ≤ result }
-    ensures to { result ≤ to }
-    ensures still { (k : ℕ) → from ≤ k → k < result → with_sample row (slot_in slots.now k).leaders after.now.sample (slot_in slots.now k).state ≡ (slot_in slots.now k).state }
-{
-    from + still(row, &slots[from..to], after.sample())
-}
-
 // Up to where the slots from one place to another are looked at, the first of them in any case: in front of the next that is passed over.
 fn looked_to(skips: &[usize], from: usize, to: usize) -> usize
     requires { from < to }
@@ -206,67 +173,79 @@ fn looked_to(skips: &[usize], from: usize, to: usize) -> usize
     to
 }
 
-// The same, where those that are passed over aren't looked at.
-fn still_among(
-    after: &After<'_>,
-    skips: &[usize],
-    row: RowId,
-    slots: &[Slot],
-    from: usize,
-    to: usize,
-) -> usize
-    requires row { IsRow row }
-    requires placed { All (λ slot. IsPlaced after.now.whole.grammar after.now.whole.infos after.now.whole.kept.leaders slot.row slot.leaders) slots.now }
-    requires skips { PassesStill after.now.sample slots.now skips.now }
-    requires proper { All (λ slot. IsProper (form_of slot.row) slot.state) slots.now }
-    requires from { from ≤ to }
-    requires to { to ≤ length slots.now }
-    requires of_row { (k : ℕ) → from ≤ k → k < to → (slot_in slots.now k).row ≡ row }
-    ensures from { from ≤ result }
-    ensures to { result ≤ to }
-    ensures still { (k : ℕ) → from ≤ k → k < result → with_sample row (slot_in slots.now k).leaders after.now.sample (slot_in slots.now k).state ≡ (slot_in slots.now k).state }
-{
-    let mut place = passed_to(skips, from, to);
-    while place < to {
-        let end = looked_to(skips, place, to);
-        let next = run_to(after, row, slots, place, end);
-        if next < end {
-            return next;
-        }
-        place = passed_to(skips, end, to);
-    }
-    place
-}
-
 // Whether some slots of a row may be passed over, and others lie between them: lines. Bounds, comparisons and planes are looked at one by one.
 fn may_be_idle(row: RowId, skips: &[usize]) -> bool {
     row.0 == rows::LINEAR && !skips.is_empty()
 }
 
-/// Up to where the slots of a row from one place to another stay as they are.
-#[inline(always)]
-pub(crate) fn still_to(
-    after: &After<'_>,
-    skips: &[usize],
-    row: RowId,
-    slots: &[Slot],
-    from: usize,
-    to: usize,
-) -> usize
-    requires row { IsRow row }
-    requires placed { All (λ slot. IsPlaced after.now.whole.grammar after.now.whole.infos after.now.whole.kept.leaders slot.row slot.leaders) slots.now }
-    requires skips { PassesStill after.now.sample slots.now skips.now }
-    requires proper { All (λ slot. IsProper (form_of slot.row) slot.state) slots.now }
-    requires from { from ≤ to }
-    requires to { to ≤ length slots.now }
-    requires of_row { (k : ℕ) → from ≤ k → k < to → (slot_in slots.now k).row ≡ row }
-    ensures from { from ≤ result }
-    ensures to { result ≤ to }
-    ensures still { (k : ℕ) → from ≤ k → k < result → with_sample row (slot_in slots.now k).leaders after.now.sample (slot_in slots.now k).state ≡ (slot_in slots.now k).state }
-{
-    if may_be_idle(row, skips) {
-        still_among(after, skips, row, slots, from, to)
-    } else {
-        run_to(after, row, slots, from, to)
+impl<'a> Search<'a> {
+    /// Where the run of slots from a place on ends, of as many as are taken together: slots of one row that, where it is asked, can't
+    /// close.
+    pub(crate) fn run_end(&self, place: usize) -> usize
+        requires { place < length self.now.slots }
+        ensures from { place ≤ result }
+        ensures to { result ≤ length self.now.slots }
+        ensures run { AreRun self.now.asked self.now.slots place result }
+    {
+        if self.asked {
+            open_end(self.slots, place)
+        } else {
+            end_of_row(self.after.ends(), self.slots, place)
+        }
+    }
+
+    // Up to where the slots of a row from one place to another stay as they are.
+    fn run_to(&self, row: RowId, from: usize, to: usize) -> usize
+        requires row { IsRow row }
+        requires from { from ≤ to }
+        requires to { to ≤ length self.now.slots }
+        requires of_row { AreOfRow row self.now.slots from to }
+        ensures from { from ≤ result }
+        ensures to { result ≤ to }
+        ensures still { AreStill row self.now.after.sample self.now.slots from result }
+    {
+        let slots = self.slots;
+        from + still(row, &slots[from..to], self.after.sample())
+    }
+
+    // The same, where those that are passed over aren't looked at.
+    fn still_among(&self, row: RowId, from: usize, to: usize) -> usize
+        requires row { IsRow row }
+        requires from { from ≤ to }
+        requires to { to ≤ length self.now.slots }
+        requires of_row { AreOfRow row self.now.slots from to }
+        ensures from { from ≤ result }
+        ensures to { result ≤ to }
+        ensures still { AreStill row self.now.after.sample self.now.slots from result }
+    {
+        let skips = self.skips;
+        let mut place = passed_to(skips, from, to);
+        while place < to {
+            let end = looked_to(skips, place, to);
+            let next = self.run_to(row, place, end);
+            if next < end {
+                return next;
+            }
+            place = passed_to(skips, end, to);
+        }
+        place
+    }
+
+    /// Up to where the slots of a row from one place to another stay as they are.
+    #[inline(always)]
+    pub(crate) fn still_to(&self, row: RowId, from: usize, to: usize) -> usize
+        requires row { IsRow row }
+        requires from { from ≤ to }
+        requires to { to ≤ length self.now.slots }
+        requires of_row { AreOfRow row self.now.slots from to }
+        ensures from { from ≤ result }
+        ensures to { result ≤ to }
+        ensures still { AreStill row self.now.after.sample self.now.slots from result }
+    {
+        if may_be_idle(row, self.skips) {
+            self.still_among(row, from, to)
+        } else {
+            self.run_to(row, from, to)
+        }
     }
 }

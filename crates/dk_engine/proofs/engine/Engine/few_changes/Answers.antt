@@ -3,14 +3,33 @@ use Rattle.std.proofs.Common.{ap, subst, sym}
 use Rattle.dk_base.specs.Values.{values_of}
 use Rattle.dk_base.specs.declared.values.Value.{Value}
 use Rattle.dk_engine.proofs.Grown.{found_within, of_some}
+use Rattle.dk_engine.specs.Feeding.Searching.{Searched}
 use Rattle.dk_engine.specs.Idle.{PassesStill}
 use Rattle.dk_engine.specs.Reading.Levels.{OneMore, Whole}
+use Rattle.dk_engine.specs.Saved.Conditions.{AreFormed}
 use Rattle.dk_engine.specs.declared.feed.changes.Change.{Change}
 use Rattle.dk_engine.specs.declared.slots.slot.Slot.{Slot}
 use Rattle.dk_engine.proofs.engine.Engine.few_changes.Goals as goal
 
-pub few_changes-requires-clause-skips : goal.few_changes-requires-clause-skips
-few_changes-requires-clause-skips c =
+pub of-search-requires-clause-formed : goal.of-search-requires-clause-formed
+of-search-requires-clause-formed c =
+    let e = c.self.inside in
+    let slots = e.kept.slots in
+    let fed = c.self.invariant.1 in
+    let formed : AreFormed e.grammar e.infos e.kept.leaders slots = record {
+      states = fed.readable.states;
+      placed = fed.placed;
+      in_order = fed.in_order;
+      unbroken = fed.unbroken;
+    } in
+    let told : AreFormed c.args.self.now.grammar c.args.self.now.infos c.args.self.now.kept.leaders slots =
+    subst (λ (w : Whole). AreFormed w.grammar w.infos w.kept.leaders slots) c.self.view_is formed in
+    let after : OneMore = c.of-after.result in
+    subst (λ (ss : List Slot). AreFormed after.whole.grammar after.whole.infos after.whole.kept.leaders ss) (sym c.as_slice-slots.ensures)
+    (subst (λ (o : OneMore). AreFormed o.whole.grammar o.whole.infos o.whole.kept.leaders slots) (sym c.of-after.ensures) told)
+
+pub of-search-requires-clause-skips : goal.of-search-requires-clause-skips
+of-search-requires-clause-skips c =
     let slots = c.self.inside.kept.slots in
     let skips = c.skips-skips.result.now in
     let told : PassesStill (values_of c.args.sample.now) slots skips =
@@ -20,8 +39,12 @@ few_changes-requires-clause-skips c =
 
 pub lose_some-requires : goal.lose_some-requires
 lose_some-requires c =
-    subst (All (λ (d : Change). d.place < length c.as_slice-slots.result.now)) (sym c.as_slice.ensures) (found_within (of_some _ _ _ c.in-Some.all c.in-Some.is c.in_ok-all.ensures))
+    let all = c.in-Some.all in
+    subst (All (λ (d : Change). d.place < length c.as_slice-slots.result.now)) (sym c.as_slice.ensures)
+    (subst (λ (s : Searched). All (λ (d : Change). d.place < length s.slots) all.changes) c.of-search.ensures (found_within (of_some _ _ _ all c.in-Some.is c.in_ok-all.ensures)))
 
 pub some_may_begin-requires : goal.some_may_begin-requires
 some_may_begin-requires c =
-    subst (All (λ (d : Change). d.place < length c.as_slice-slots.result.now)) (sym c.as_slice-then-not-new.ensures) (found_within (of_some _ _ _ c.in-Some.all c.in-Some.is c.in_ok-all.ensures))
+    let all = c.in-Some.all in
+    subst (All (λ (d : Change). d.place < length c.as_slice-slots.result.now)) (sym c.as_slice-then-not-new.ensures)
+    (subst (λ (s : Searched). All (λ (d : Change). d.place < length s.slots) all.changes) c.of-search.ensures (found_within (of_some _ _ _ all c.in-Some.is c.in_ok-all.ensures)))
