@@ -28,7 +28,7 @@ use crate::idle::facts::{
 use crate::idle::moves::Moves;
 use crate::idle::noted::place_of;
 use dk_base::{NoMemory, VarId, View};
-use dk_template::{RowId, State, rows};
+use dk_template::{State, rows};
 use std::alloc::Global;
 
 /// What a sample is asked before slots are passed over: whether these variables have numbers within their bounds, the numbers of these rise,
@@ -59,7 +59,7 @@ pub(crate) struct Notes {
 }
 
 // Three variables, at the coordinates of a plane or a stretch.
-#[derive(Clone, Copy, Debug)]
+#[derive(Clone, Copy)]
 struct Triple {
     u: VarId,
     v: VarId,
@@ -76,7 +76,7 @@ impl Triple {
 }
 
 // A plane: the points with `a * x + b * y + c * z + d = 0`.
-#[derive(Clone, Copy, Debug)]
+#[derive(Clone, Copy)]
 struct Plane {
     a: i128,
     b: i128,
@@ -210,7 +210,7 @@ fn is_idle_by(watch: &Watch, places: &[usize], slot: &Slot, vars: Triple) -> boo
 }
 
 // A variable at a coordinate of a stretch, with its first and its last number there.
-#[derive(Clone, Copy, Debug)]
+#[derive(Clone, Copy)]
 struct Coordinate {
     var: VarId,
     first: i64,

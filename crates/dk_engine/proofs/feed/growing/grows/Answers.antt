@@ -24,5 +24,5 @@ returns-in-Span-clause-state c fits =
     let k = c.in-Span in
     let v = c.args.v in
     let told : Span k.x1 k.y1 k.z1 v.x v.y v.z ≡ plane_join (Span k.x1 k.y1 k.z1 k.x2 k.y2 k.z2) (plane_of ((v.x, v.y, v.z) ∷ [])) =
-        search (rules, rw (c.new.ensures, c.new-in-Span.ensures) at (c.reaches.ensures fits)) in
+    search (rules, rw (c.new.ensures, c.new-in-Span.ensures) at (c.reaches.ensures fits)) in
     subst (λ (t : State). prolonged t v.x v.y v.z ≡ plane_join t (plane_of ((v.x, v.y, v.z) ∷ []))) (sym k.is) told

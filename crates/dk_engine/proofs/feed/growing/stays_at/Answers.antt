@@ -16,5 +16,5 @@ returns-in-Span c fits =
     let k = c.in-Span in
     let v = c.args.v in
     let told : plane_join (Span k.x1 k.y1 k.z1 k.x2 k.y2 k.z2) (plane_of ((v.x, v.y, v.z) ∷ [])) ≡ Span k.x1 k.y1 k.z1 k.x2 k.y2 k.z2 =
-        search (rules, rw (c.new.ensures, c.new-in-Span.ensures) at (c.is_within.ensures fits)) in
+    search (rules, rw (c.new.ensures, c.new-in-Span.ensures) at (c.is_within.ensures fits)) in
     subst (λ (t : State). plane_join t (plane_of ((v.x, v.y, v.z) ∷ [])) ≡ t) (sym k.is) told
