@@ -57,7 +57,7 @@ module _ (slots : List Slot) where
       ap (λ (n : ℕ). is_empty_state slot.state && (n == 36 || n == 37)) is.row ∙ no_and (is_empty_state slot.state) false refl
 
   grown_unbroken : (g : Growth) → IsGrowth slots g → is_broken (change_by slots g).state ≡ false
-  grown_unbroken g is = prolonged_unbroken (slot_in slots g.place).state g.x g.y g.z is.unbroken
+  grown_unbroken g is = prolonged_unbroken (slot_in slots g.place).state g.end.x g.end.y g.end.z is.unbroken
 
   -- ---- a test that no growth passes
   module _ (test : Change → Bool) (fails : (g : Growth) → IsGrowth slots g → test (change_by slots g) ≡ false) where
@@ -111,14 +111,14 @@ module _ (slots : List Slot) where
           | inl within ↦
               ap (λ (i : ℕ). prolonged (slot_in (with_growth cur g) i).state x y z) e
               ∙ (ap (λ (s : Slot). prolonged s.state x y z) (get_or-set_same cur g.place put no_slot within)
-              ∙ (prolonged_again slot.state g.x g.y g.z x y z ∙ (alike g.place x y z ∙ ap (λ (i : ℕ). prolonged (slot_in slots i).state x y z) (sym e))))
+              ∙ (prolonged_again slot.state g.end.x g.end.y g.end.z x y z ∙ (alike g.place x y z ∙ ap (λ (i : ℕ). prolonged (slot_in slots i).state x y z) (sym e))))
         ]
       ]
 
   grown_as_changed : (growths : List Growth) (cur : List Slot) → Alike cur → fold with_growth cur growths ≡ fold with_change cur (map (change_by slots) growths)
   grown_as_changed [] cur alike = refl
   grown_as_changed (g ∷ growths) cur alike =
-      let one : with_growth cur g ≡ with_change cur (change_by slots g) = ap (λ s. slice_set cur g.place (with_state (slot_in cur g.place) s)) (alike g.place g.x g.y g.z) in
+      let one : with_growth cur g ≡ with_change cur (change_by slots g) = ap (λ s. slice_set cur g.place (with_state (slot_in cur g.place) s)) (alike g.place g.end.x g.end.y g.end.z) in
       grown_as_changed growths (with_growth cur g) (alike_grown cur alike g) ∙ ap (λ ss. fold with_change ss (map (change_by slots) growths)) one
 
   pub found_folded : (found : SlotChanges) → fold with_change (fold with_growth slots found.growths) found.changes ≡ fold with_change slots (found_changes slots found)

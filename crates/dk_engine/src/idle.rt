@@ -3,9 +3,10 @@
 // near, and that number. Bounds that rest, and comparisons: the facts are what they say. All that is known of one variable are its bounds.
 // A search for changed slots passes over them where all facts are true; a fact is true of a variable that is missing. Other variables
 // aren't asked, so that truth values, codes, strings and sequences at a point don't matter.
-ghost use Rattle.std.specs.Prelude.{◌≡◌, ◌<◌, ◌≤◌, ◌+◌, ◌==◌, ◌&&◌, ◌||◌, ◌∷◌, [], true, IfOk, IsTrue, length, replicate, slice_set};
+ghost use Rattle.std.specs.Prelude.{◌≡◌, ◌<◌, ◌≤◌, ◌+◌, ◌==◌, ◌&&◌, ◌||◌, ◌∷◌, [], true, IfOk, IfSome, IsTrue, length, replicate, slice_set};
 ghost use Rattle.std.specs.Ordering.{int_eq};
 ghost use Rattle.dk_base.specs.Values.{values_of};
+ghost use Rattle.dk_forms.specs.declared.states.State.TheVariants.{Plane as PlaneState};
 ghost use Rattle.dk_engine.specs.Idle.{AreNotes, AreSkips, IsIdle, are_fixed, are_near_each, are_same, is_above, is_axis, is_below, is_compared, is_diagonal, is_driven, is_driven_stretch, is_fixed, is_idle_greatest, is_idle_least, is_idle_over, is_idle_straight, is_near, is_near_number, is_passed, is_told, later, meets, skip_in};
 ghost use Rattle.dk_template.specs.Numbers as number;
 
@@ -27,7 +28,7 @@ use crate::idle::facts::{
 use crate::idle::moves::Moves;
 use crate::idle::noted::place_of;
 use dk_base::{NoMemory, VarId, View};
-use dk_template::{RowId, State, rows};
+use dk_template::{State, rows};
 use std::alloc::Global;
 
 /// What a sample is asked before slots are passed over: whether these variables have numbers within their bounds, the numbers of these rise,
@@ -57,11 +58,73 @@ pub(crate) struct Notes {
     pub(crate) ends: Vec<usize>,
 }
 
-// Whether a plane is that of the points whose first two coordinates are one.
-fn is_diagonal(a: i128, b: i128, c: i128, d: i128) -> bool
-    ensures { result ≡ is_diagonal a b c d }
-{
-    a == 1 && (b == -1 && (c == 0 && d == 0))
+// Three variables, at the coordinates of a plane or a stretch.
+#[derive(Clone, Copy)]
+struct Triple {
+    u: VarId,
+    v: VarId,
+    w: VarId,
+}
+
+impl Triple {
+    // These variables.
+    fn new(u: VarId, v: VarId, w: VarId) -> Triple
+        ensures { result ≡ record { u = u; v = v; w = w } }
+    {
+        Triple { u, v, w }
+    }
+}
+
+// A plane: the points with `a * x + b * y + c * z + d = 0`.
+#[derive(Clone, Copy)]
+struct Plane {
+    a: i128,
+    b: i128,
+    c: i128,
+    d: i128,
+}
+
+impl Plane {
+    // The plane of a state, if it is one.
+    fn of(state: &State) -> Option<Plane>
+        ensures { IfSome result (λ n. state.now ≡ PlaneState n.a n.b n.c n.d) }
+    {
+        match state {
+            State::Plane { a, b, c, d } => Some(Plane {
+                a: *a,
+                b: *b,
+                c: *c,
+                d: *d,
+            }),
+            _ => None,
+        }
+    }
+
+    // The plane with its first coordinate last.
+    fn turned(self) -> Plane
+        ensures { result ≡ record { a = self.b; b = self.c; c = self.a; d = self.d } }
+    {
+        Plane {
+            a: self.b,
+            b: self.c,
+            c: self.a,
+            d: self.d,
+        }
+    }
+
+    // Whether it is that of the points whose first two coordinates are one.
+    fn is_diagonal(self) -> bool
+        ensures { result ≡ is_diagonal self.a self.b self.c self.d }
+    {
+        self.a == 1 && (self.b == -1 && (self.c == 0 && self.d == 0))
+    }
+
+    // Whether it says of its first coordinate alone which number it is.
+    fn is_axis(self) -> bool
+        ensures { result ≡ is_axis self.a self.b self.c }
+    {
+        self.a == 1 && (self.b == 0 && self.c == 0)
+    }
 }
 
 /// Whether a sample meets the watch: all its facts are true of the sample.
@@ -73,91 +136,51 @@ pub(crate) fn meets(watch: &Watch, sample: &[View<'_>]) -> bool
             && are_so(sample, watch.compared.as_slice()))
 }
 
-// Whether a plane says of its first coordinate alone which number it is.
-fn is_axis(a: i128, b: i128, c: i128) -> bool
-    ensures { result ≡ is_axis a b c }
+// Whether a plane is seen to say of a variable at its first coordinate the number that it has.
+fn is_fixed(ranges: &[Range], places: &[usize], v: VarId, plane: Plane) -> bool
+    ensures { IsTrue result → is_fixed ranges.now v plane.a plane.b plane.c plane.d ≡ true }
 {
-    a == 1 && (b == 0 && c == 0)
-}
-
-// Whether it is seen to say of a variable at its first coordinate the number that it has.
-fn is_fixed(
-    ranges: &[Range],
-    places: &[usize],
-    u: VarId,
-    a: i128,
-    b: i128,
-    c: i128,
-    d: i128,
-) -> bool
-    ensures { IsTrue result → is_fixed ranges.now u a b c d ≡ true }
-{
-    is_axis(a, b, c) && is_listed(ranges, place_of(places, u), u, d)
+    plane.is_axis() && is_listed(ranges, place_of(places, v), v, plane.d)
 }
 
 // Whether it is seen to say so of one of three variables.
-fn are_fixed(
-    ranges: &[Range],
-    places: &[usize],
-    u: VarId,
-    v: VarId,
-    w: VarId,
-    a: i128,
-    b: i128,
-    c: i128,
-    d: i128,
-) -> bool
-    ensures { IsTrue result → are_fixed ranges.now u v w a b c d ≡ true }
+fn are_fixed(ranges: &[Range], places: &[usize], vars: Triple, plane: Plane) -> bool
+    ensures { IsTrue result → are_fixed ranges.now vars.u vars.v vars.w plane.a plane.b plane.c plane.d ≡ true }
 {
-    is_fixed(ranges, places, u, a, b, c, d)
-        || (is_fixed(ranges, places, v, b, c, a, d) || is_fixed(ranges, places, w, c, a, b, d))
+    let next = plane.turned();
+    is_fixed(ranges, places, vars.u, plane)
+        || (is_fixed(ranges, places, vars.v, next)
+            || is_fixed(ranges, places, vars.w, next.turned()))
 }
 
 // Whether two variables are one, and the plane says that of their values.
-fn is_itself(u: VarId, v: VarId, a: i128, b: i128, c: i128, d: i128) -> bool
-    ensures { result ≡ (u.0 == v.0 && is_diagonal a b c d) }
+fn is_itself(u: VarId, v: VarId, plane: Plane) -> bool
+    ensures { result ≡ (u.0 == v.0 && is_diagonal plane.a plane.b plane.c plane.d) }
 {
-    u.0 == v.0 && is_diagonal(a, b, c, d)
+    u.0 == v.0 && plane.is_diagonal()
 }
 
 // Whether the plane says no more than that a variable, which stands at two roles, is itself.
-fn are_same(u: VarId, v: VarId, w: VarId, a: i128, b: i128, c: i128, d: i128) -> bool
-    ensures { result ≡ are_same u v w a b c d }
+fn are_same(vars: Triple, plane: Plane) -> bool
+    ensures { result ≡ are_same vars.u vars.v vars.w plane.a plane.b plane.c plane.d }
 {
-    is_itself(u, v, a, b, c, d) || is_itself(v, w, b, c, a, d)
+    is_itself(vars.u, vars.v, plane) || is_itself(vars.v, vars.w, plane.turned())
 }
 
 // Whether it is seen to say no more than that, or than that one of the variables has its number.
-fn is_idle_plane(
-    ranges: &[Range],
-    places: &[usize],
-    u: VarId,
-    v: VarId,
-    w: VarId,
-    a: i128,
-    b: i128,
-    c: i128,
-    d: i128,
-) -> bool
-    ensures { IsTrue result → (are_same u v w a b c d || are_fixed ranges.now u v w a b c d) ≡ true }
+fn is_idle_plane(ranges: &[Range], places: &[usize], vars: Triple, plane: Plane) -> bool
+    ensures { IsTrue result → (are_same vars.u vars.v vars.w plane.a plane.b plane.c plane.d || are_fixed ranges.now vars.u vars.v vars.w plane.a plane.b plane.c plane.d) ≡ true }
 {
-    are_same(u, v, w, a, b, c, d) || are_fixed(ranges, places, u, v, w, a, b, c, d)
+    are_same(vars, plane) || are_fixed(ranges, places, vars, plane)
 }
 
 // The same of a state, if it is a plane.
-fn is_idle_over(
-    ranges: &[Range],
-    places: &[usize],
-    u: VarId,
-    v: VarId,
-    w: VarId,
-    state: &State,
-) -> bool
-    ensures { IsTrue result → is_idle_over ranges.now u v w state.now ≡ true }
+fn is_idle_over(ranges: &[Range], places: &[usize], vars: Triple, state: &State) -> bool
+    ensures { IsTrue result → is_idle_over ranges.now vars.u vars.v vars.w state.now ≡ true }
 {
-    match state {
-        State::Plane { a, b, c, d } => { is_idle_plane(ranges, places, u, v, w, *a, *b, *c, *d) }
-        _ => false,
+    match Plane::of(state) {
+        Some(plane) => is_idle_plane(ranges, places, vars, plane),
+        None => false,
     }
 }
 
@@ -169,32 +192,49 @@ fn is_known_near(ranges: &[Range], places: &[usize], v: VarId) -> bool
 }
 
 // Whether those of three variables are.
-fn are_near_each(ranges: &[Range], places: &[usize], u: VarId, v: VarId, w: VarId) -> bool
-    ensures { IsTrue result → are_near_each ranges.now u v w ≡ true }
+fn are_near_each(ranges: &[Range], places: &[usize], vars: Triple) -> bool
+    ensures { IsTrue result → are_near_each ranges.now vars.u vars.v vars.w ≡ true }
 {
-    is_known_near(ranges, places, u)
-        && (is_known_near(ranges, places, v) && is_known_near(ranges, places, w))
+    is_known_near(ranges, places, vars.u)
+        && (is_known_near(ranges, places, vars.v) && is_known_near(ranges, places, vars.w))
 }
 
 // Whether a slot of LinearTernary over three leaders, a plane, is seen to be idle.
-fn is_idle_by(watch: &Watch, places: &[usize], slot: &Slot, u: VarId, v: VarId, w: VarId) -> bool
+fn is_idle_by(watch: &Watch, places: &[usize], slot: &Slot, vars: Triple) -> bool
     requires row { slot.now.row.0 ≡ number.linear_ternary }
-    requires leaders { slot.now.leaders ≡ u ∷ v ∷ w ∷ [] }
+    requires leaders { slot.now.leaders ≡ vars.u ∷ vars.v ∷ vars.w ∷ [] }
     ensures { IsTrue result → IsIdle watch.now slot.now }
 {
-    is_idle_over(watch.ranges.as_slice(), places, u, v, w, &slot.state)
-        && are_near_each(watch.ranges.as_slice(), places, u, v, w)
+    is_idle_over(watch.ranges.as_slice(), places, vars, &slot.state)
+        && are_near_each(watch.ranges.as_slice(), places, vars)
 }
 
-// The variable that drives a stretch, with its first and its last number: the one at the first coordinate that moves.
-#[derive(Clone, Copy, Debug)]
-struct Driver {
+// A variable at a coordinate of a stretch, with its first and its last number there.
+#[derive(Clone, Copy)]
+struct Coordinate {
     var: VarId,
     first: i64,
     last: i64,
 }
 
-fn driver_of(u: VarId, v: VarId, w: VarId, state: &State) -> Option<Driver> {
+impl Coordinate {
+    // The coordinate with these numbers.
+    fn new(var: VarId, first: i64, last: i64) -> Coordinate
+        ensures { result ≡ record { var = var; first = first; last = last } }
+    {
+        Coordinate { var, first, last }
+    }
+
+    // Whether both numbers are near.
+    fn is_near(self) -> bool
+        ensures { result ≡ (is_near_number self.first && is_near_number self.last) }
+    {
+        is_near(self.first) && is_near(self.last)
+    }
+}
+
+// The coordinate that drives a stretch over three variables: the first one that moves.
+fn driver_of(vars: Triple, state: &State) -> Option<Coordinate> {
     match state {
         State::Span {
             x1,
@@ -203,59 +243,51 @@ fn driver_of(u: VarId, v: VarId, w: VarId, state: &State) -> Option<Driver> {
             x2,
             y2,
             z2,
-        } => {
-            let (var, first, last) = if *x1 != *x2 {
-                (u, *x1, *x2)
-            } else if *y1 != *y2 {
-                (v, *y1, *y2)
-            } else {
-                (w, *z1, *z2)
-            };
-            Some(Driver { var, first, last })
-        }
+        } => Some(if *x1 != *x2 {
+            Coordinate::new(vars.u, *x1, *x2)
+        } else if *y1 != *y2 {
+            Coordinate::new(vars.v, *y1, *y2)
+        } else {
+            Coordinate::new(vars.w, *z1, *z2)
+        }),
         _ => None,
     }
 }
 
 // Whether a coordinate of a stretch is the driving variable's number.
-fn is_driver(driver: Driver, v: VarId, a: i64, b: i64) -> bool
-    ensures { result ≡ (v.0 == driver.var.0 && (int_eq a driver.first && int_eq b driver.last)) }
+fn is_driver(driver: Coordinate, one: Coordinate) -> bool
+    ensures { result ≡ (one.var.0 == driver.var.0 && (int_eq one.first driver.first && int_eq one.last driver.last)) }
 {
-    v.0 == driver.var.0 && (a == driver.first && b == driver.last)
+    one.var.0 == driver.var.0 && (one.first == driver.first && one.last == driver.last)
 }
 
 // Whether it is seen to be that of a variable that has no other.
-fn is_still(ranges: &[Range], place: usize, v: VarId, a: i64, b: i64) -> bool
-    ensures { IsTrue result → (int_eq a b && (is_above ranges.now v a && is_below ranges.now v a)) ≡ true }
+fn is_still(ranges: &[Range], place: usize, one: Coordinate) -> bool
+    ensures { IsTrue result → (int_eq one.first one.last && (is_above ranges.now one.var one.first && is_below ranges.now one.var one.first)) ≡ true }
 {
-    a == b && (is_above(ranges, place, v, a) && is_below(ranges, place, v, a))
+    one.first == one.last
+        && (is_above(ranges, place, one.var, one.first)
+            && is_below(ranges, place, one.var, one.first))
 }
 
 // Whether it is seen to be one of the two.
-fn is_driven_by(ranges: &[Range], place: usize, driver: Driver, v: VarId, a: i64, b: i64) -> bool
-    ensures { IsTrue result → ((v.0 == driver.var.0 && (int_eq a driver.first && int_eq b driver.last)) || (int_eq a b && (is_above ranges.now v a && is_below ranges.now v a))) ≡ true }
+fn is_driven_by(ranges: &[Range], place: usize, driver: Coordinate, one: Coordinate) -> bool
+    ensures { IsTrue result → ((one.var.0 == driver.var.0 && (int_eq one.first driver.first && int_eq one.last driver.last)) || (int_eq one.first one.last && (is_above ranges.now one.var one.first && is_below ranges.now one.var one.first))) ≡ true }
 {
-    is_driver(driver, v, a, b) || is_still(ranges, place, v, a, b)
-}
-
-// Whether both ends of a coordinate are near.
-fn are_near_ends(a: i64, b: i64) -> bool
-    ensures { result ≡ (is_near_number a && is_near_number b) }
-{
-    is_near(a) && is_near(b)
+    is_driver(driver, one) || is_still(ranges, place, one)
 }
 
 // Whether a variable's coordinate of a stretch is seen to be driven.
-fn is_driven(ranges: &[Range], places: &[usize], driver: Driver, v: VarId, a: i64, b: i64) -> bool
-    ensures { IsTrue result → is_driven ranges.now driver.var driver.first driver.last v a b ≡ true }
+fn is_driven(ranges: &[Range], places: &[usize], driver: Coordinate, one: Coordinate) -> bool
+    ensures { IsTrue result → is_driven ranges.now driver.var driver.first driver.last one.var one.first one.last ≡ true }
 {
-    let place = place_of(places, v);
-    (is_numeric(ranges, place, v) && are_near_ends(a, b))
-        && is_driven_by(ranges, place, driver, v, a, b)
+    let place = place_of(places, one.var);
+    (is_numeric(ranges, place, one.var) && one.is_near())
+        && is_driven_by(ranges, place, driver, one)
 }
 
 // Whether the driving variable's numbers are seen to be within its ends.
-fn is_within_ends(ranges: &[Range], places: &[usize], driver: Driver) -> bool
+fn is_within_ends(ranges: &[Range], places: &[usize], driver: Coordinate) -> bool
     ensures { IsTrue result → (is_above ranges.now driver.var driver.first && is_below ranges.now driver.var driver.last) ≡ true }
 {
     let place = place_of(places, driver.var);
@@ -267,13 +299,11 @@ fn is_within_ends(ranges: &[Range], places: &[usize], driver: Driver) -> bool
 fn is_driven_stretch(
     ranges: &[Range],
     places: &[usize],
-    driver: Driver,
-    u: VarId,
-    v: VarId,
-    w: VarId,
+    driver: Coordinate,
+    vars: Triple,
     state: &State,
 ) -> bool
-    ensures { IsTrue result → is_driven_stretch ranges.now driver.var driver.first driver.last u v w state.now ≡ true }
+    ensures { IsTrue result → is_driven_stretch ranges.now driver.var driver.first driver.last vars.u vars.v vars.w state.now ≡ true }
 {
     match state {
         State::Span {
@@ -284,9 +314,9 @@ fn is_driven_stretch(
             y2,
             z2,
         } => {
-            is_driven(ranges, places, driver, u, *x1, *x2)
-                && (is_driven(ranges, places, driver, v, *y1, *y2)
-                    && (is_driven(ranges, places, driver, w, *z1, *z2)
+            is_driven(ranges, places, driver, Coordinate::new(vars.u, *x1, *x2))
+                && (is_driven(ranges, places, driver, Coordinate::new(vars.v, *y1, *y2))
+                    && (is_driven(ranges, places, driver, Coordinate::new(vars.w, *z1, *z2))
                         && is_within_ends(ranges, places, driver)))
         }
         _ => false,
@@ -294,29 +324,14 @@ fn is_driven_stretch(
 }
 
 // Whether a slot of LinearTernary over three leaders, a stretch, is seen to be idle.
-fn is_idle_stretch(
-    watch: &Watch,
-    places: &[usize],
-    slot: &Slot,
-    u: VarId,
-    v: VarId,
-    w: VarId,
-) -> bool
+fn is_idle_stretch(watch: &Watch, places: &[usize], slot: &Slot, vars: Triple) -> bool
     requires row { slot.now.row.0 ≡ number.linear_ternary }
-    requires leaders { slot.now.leaders ≡ u ∷ v ∷ w ∷ [] }
+    requires leaders { slot.now.leaders ≡ vars.u ∷ vars.v ∷ vars.w ∷ [] }
     ensures { IsTrue result → IsIdle watch.now slot.now }
 {
-    match driver_of(u, v, w, &slot.state) {
+    match driver_of(vars, &slot.state) {
         Some(driver) => {
-            is_driven_stretch(
-                watch.ranges.as_slice(),
-                places,
-                driver,
-                u,
-                v,
-                w,
-                &slot.state,
-            )
+            is_driven_stretch(watch.ranges.as_slice(), places, driver, vars, &slot.state)
         }
         None => false,
     }
@@ -328,7 +343,15 @@ fn is_idle_straight(ranges: &[Range], places: &[usize], u: VarId, v: VarId, stat
     ensures { IsTrue result → is_idle_straight ranges.now u v state.now ≡ true }
 {
     match state {
-        State::Straight { a, b, c } => is_idle_plane(ranges, places, u, v, v, *a, *b, 0, *c),
+        State::Straight { a, b, c } => {
+            let plane = Plane {
+                a: *a,
+                b: *b,
+                c: 0,
+                d: *c,
+            };
+            is_idle_plane(ranges, places, Triple::new(u, v, v), plane)
+        }
         _ => false,
     }
 }
@@ -345,26 +368,23 @@ fn is_idle_line(watch: &Watch, places: &Places, slot: &Slot, u: VarId, v: VarId)
         u,
         v,
         &slot.state,
-    ) && are_near_each(watch.ranges.as_slice(), places.ranges.as_slice(), u, v, v)
+    ) && are_near_each(
+        watch.ranges.as_slice(),
+        places.ranges.as_slice(),
+        Triple::new(u, v, v),
+    )
 }
 
 // Whether a slot of LinearTernary over three leaders is seen to be idle.
-fn is_idle_of_three(
-    watch: &Watch,
-    places: &Places,
-    slot: &Slot,
-    u: VarId,
-    v: VarId,
-    w: VarId,
-) -> bool
+fn is_idle_of_three(watch: &Watch, places: &Places, slot: &Slot, vars: Triple) -> bool
     requires row { slot.now.row.0 ≡ number.linear_ternary }
-    requires leaders { slot.now.leaders ≡ u ∷ v ∷ w ∷ [] }
+    requires leaders { slot.now.leaders ≡ vars.u ∷ vars.v ∷ vars.w ∷ [] }
     ensures { IsTrue result → IsIdle watch.now slot.now }
 {
-    if is_idle_stretch(watch, places.ranges.as_slice(), slot, u, v, w) {
+    if is_idle_stretch(watch, places.ranges.as_slice(), slot, vars) {
         return true;
     }
-    is_idle_by(watch, places.ranges.as_slice(), slot, u, v, w)
+    is_idle_by(watch, places.ranges.as_slice(), slot, vars)
 }
 
 // Whether a least value is seen to be idle.
@@ -407,12 +427,12 @@ fn is_idle_bound(watch: &Watch, places: &Places, slot: &Slot, v: VarId) -> bool
     }
 }
 
-// Whether the comparison of this row of these two is seen to be the last of those that are left, which it leaves then.
-fn is_next(watch: &Watch, places: &mut Places, row: RowId, u: VarId, v: VarId) -> bool
-    ensures { IsTrue result → is_compared watch.now.compared.items row.0 u v ≡ true }
+// Whether a comparison is seen to be the last of those that are left, which it leaves then.
+fn is_next(watch: &Watch, places: &mut Places, one: Compared) -> bool
+    ensures { IsTrue result → is_compared watch.now.compared.items one.row.0 one.first one.second ≡ true }
 {
     let last = places.left.saturating_sub(1);
-    if is_compared(watch.compared.as_slice(), last, row, u, v) {
+    if is_compared(watch.compared.as_slice(), last, one) {
         places.left = last;
         true
     } else {
@@ -420,18 +440,16 @@ fn is_next(watch: &Watch, places: &mut Places, row: RowId, u: VarId, v: VarId) -
     }
 }
 
-// Whether the comparison of this row of these two is seen to be told by the other facts.
-fn is_known(watch: &Watch, places: &Places, row: RowId, u: VarId, v: VarId) -> bool
-    ensures { IsTrue result → is_told watch.now.ranges.items watch.now.rising.items row.0 u v ≡ true }
+// Whether it is seen to be told by the other facts.
+fn is_known(watch: &Watch, places: &Places, one: Compared) -> bool
+    ensures { IsTrue result → is_told watch.now.ranges.items watch.now.rising.items one.row.0 one.first one.second ≡ true }
 {
     is_told(
         watch.ranges.as_slice(),
         places.ranges.as_slice(),
         watch.rising.as_slice(),
         places.rising.as_slice(),
-        row,
-        u,
-        v,
+        one,
     )
 }
 
@@ -445,10 +463,15 @@ fn is_idle_comparison(watch: &Watch, places: &mut Places, slot: &Slot, u: VarId,
     if !holds(&slot.state) {
         return false;
     }
-    if is_known(watch, places, slot.row, u, v) {
+    let one = Compared {
+        row: slot.row,
+        first: u,
+        second: v,
+    };
+    if is_known(watch, places, one) {
         return true;
     }
-    is_next(watch, places, slot.row, u, v)
+    is_next(watch, places, one)
 }
 
 // Whether the slot is seen to be idle.
@@ -468,7 +491,7 @@ fn is_idle(watch: &Watch, places: &mut Places, slot: &Slot) -> bool
         }
         [u, v, w] => {
             if slot.row.0 == rows::LINEAR_TERNARY {
-                is_idle_of_three(watch, places, slot, *u, *v, *w)
+                is_idle_of_three(watch, places, slot, Triple::new(*u, *v, *w))
             } else {
                 false
             }
@@ -489,26 +512,16 @@ fn add_opposite(ranges: &mut Ranges, v: VarId, d: i128) -> Result<(), NoMemory> 
 }
 
 // With the number that a plane over three variables says one of them to have, if it says that of one alone.
-fn add_fixed_over(
-    ranges: &mut Ranges,
-    u: VarId,
-    v: VarId,
-    w: VarId,
-    state: &State,
-) -> Result<(), NoMemory> {
-    match state {
-        State::Plane { a, b, c, d } => {
-            if is_axis(*a, *b, *c) {
-                add_opposite(ranges, u, *d)
-            } else if is_axis(*b, *c, *a) {
-                add_opposite(ranges, v, *d)
-            } else if is_axis(*c, *a, *b) {
-                add_opposite(ranges, w, *d)
-            } else {
-                Ok(())
-            }
-        }
-        _ => Ok(()),
+fn add_fixed_over(ranges: &mut Ranges, vars: Triple, plane: Plane) -> Result<(), NoMemory> {
+    let next = plane.turned();
+    if plane.is_axis() {
+        add_opposite(ranges, vars.u, plane.d)
+    } else if next.is_axis() {
+        add_opposite(ranges, vars.v, plane.d)
+    } else if next.turned().is_axis() {
+        add_opposite(ranges, vars.w, plane.d)
+    } else {
+        Ok(())
     }
 }
 
@@ -517,8 +530,8 @@ fn add_fixed(ranges: &mut Ranges, slot: &Slot) -> Result<(), NoMemory> {
     if slot.row.0 != rows::LINEAR_TERNARY {
         return Ok(());
     }
-    match slot.leaders.as_slice() {
-        [u, v, w] => add_fixed_over(ranges, *u, *v, *w, &slot.state),
+    match (slot.leaders.as_slice(), Plane::of(&slot.state)) {
+        ([u, v, w], Some(plane)) => add_fixed_over(ranges, Triple::new(*u, *v, *w), plane),
         _ => Ok(()),
     }
 }
@@ -532,9 +545,7 @@ fn is_known_plane(ranges: &Ranges, slot: &Slot) -> bool {
         [u, v, w] => is_idle_over(
             ranges.all.as_slice(),
             ranges.places.as_slice(),
-            *u,
-            *v,
-            *w,
+            Triple::new(*u, *v, *w),
             &slot.state,
         ),
         _ => false,

@@ -92,7 +92,7 @@ may_stay state x y z = true
 
 -- the state that a growth makes of a slot's
 abbrev pub grown_state : Slot → Growth → State
-grown_state slot growth = prolonged slot.state growth.x growth.y growth.z
+grown_state slot growth = prolonged slot.state growth.end.x growth.end.y growth.end.z
 
 -- a growth by which the slot at a place, of the row of planes, gets the state that is made of it
 pub record IsGrown (slot : Slot) (made : State) (place : ℕ) (growth : Growth) : Type 0 where

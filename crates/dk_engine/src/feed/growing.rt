@@ -1,6 +1,7 @@
 // Planes and stretches of a line with a sample: whether they stay as they are, and stretches that grow, as the sample's point lies on the
 // line, beyond the last one.
 ghost use Rattle.std.specs.Prelude.{◌≡◌, ◌≢◌, ◌∷◌, [], ◌^◌, false, unsigned_abs, nat_le, IsTrue};
+ghost use Rattle.dk_arith.specs.Vectors.{minus};
 ghost use Rattle.dk_base.specs.Values.{values_of};
 ghost use Rattle.dk_instances.specs.Fits.{is_whole, tuple_in};
 ghost use Rattle.dk_forms.specs.Plane.{IsPlaneState, IsPoint, IsSpan, are_aligned, are_parallel, in_space, is_before, plane_join, plane_of};
@@ -20,13 +21,37 @@ use dk_forms::{distance, plane_stays, same_products};
 use dk_samples::{is_present, value_at};
 use dk_template::{State, rows};
 
+/// A point in space.
+#[derive(Clone, Copy, Debug)]
+pub struct Point {
+    pub x: i64,
+    pub y: i64,
+    pub z: i64,
+}
+
 /// A stretch of a line in the slot at a place, with the point at which it ends then.
 #[derive(Clone, Copy, Debug)]
 pub struct Growth {
     pub place: usize,
-    pub x: i64,
-    pub y: i64,
-    pub z: i64,
+    pub end: Point,
+}
+
+// A step in space, from a point to another.
+#[derive(Clone, Copy)]
+struct Step {
+    a: i64,
+    b: i64,
+    c: i64,
+}
+
+impl Point {
+    // The point with these coordinates.
+    #[inline(always)]
+    fn new(x: i64, y: i64, z: i64) -> Point
+        ensures { result ≡ record { x = x; y = y; z = z } }
+    {
+        Point { x, y, z }
+    }
 }
 
 /// Whether a coordinate is within the limit.
@@ -39,34 +64,49 @@ pub(crate) fn is_near(x: i64) -> bool
 
 // Whether all coordinates of a point are.
 #[inline(always)]
-fn is_in_space(x: i64, y: i64, z: i64) -> bool
-    ensures { result ≡ in_space (x, y, z) }
+fn is_in_space(p: Point) -> bool
+    ensures { result ≡ in_space (p.x, p.y, p.z) }
 {
-    is_near(x) && is_near(y) && is_near(z)
+    is_near(p.x) && is_near(p.y) && is_near(p.z)
 }
 
 // Whether the first of two points isn't after the second: by x, then y, then z.
 #[inline(always)]
-fn is_before(x1: i64, y1: i64, z1: i64, x: i64, y: i64, z: i64) -> bool
-    ensures { result ≡ is_before (x1, y1, z1) (x, y, z) }
+fn is_before(p: Point, q: Point) -> bool
+    ensures { result ≡ is_before (p.x, p.y, p.z) (q.x, q.y, q.z) }
 {
-    if x1 == x {
-        if y1 == y { z1 <= z } else { y1 < y }
+    if p.x == q.x {
+        if p.y == q.y { p.z <= q.z } else { p.y < q.y }
     } else {
-        x1 < x
+        p.x < q.x
     }
 }
 
-// Whether two steps in space have the same or opposite directions.
+// The step from p to q.
 #[inline(always)]
-fn are_parallel(a: i64, b: i64, c: i64, d: i64, e: i64, f: i64) -> bool
-    requires first { IsGap (a, b, c) }
-    requires second { IsGap (d, e, f) }
-    ensures { result ≡ are_parallel (a, b, c) (d, e, f) }
+fn step_between(p: Point, q: Point) -> Step
+    requires p { IsPoint (p.x, p.y, p.z) }
+    requires q { IsPoint (q.x, q.y, q.z) }
+    ensures value { (result.a, result.b, result.c) ≡ minus (q.x, q.y, q.z) (p.x, p.y, p.z) }
+    ensures small { IsGap (result.a, result.b, result.c) }
 {
-    if same_products(a, e, d, b) {
-        if same_products(a, f, d, c) {
-            same_products(b, f, e, c)
+    Step {
+        a: distance(q.x, p.x),
+        b: distance(q.y, p.y),
+        c: distance(q.z, p.z),
+    }
+}
+
+// Whether two steps have the same or opposite directions.
+#[inline(always)]
+fn are_parallel(u: Step, f: Step) -> bool
+    requires u { IsGap (u.a, u.b, u.c) }
+    requires f { IsGap (f.a, f.b, f.c) }
+    ensures { result ≡ are_parallel (u.a, u.b, u.c) (f.a, f.b, f.c) }
+{
+    if same_products(u.a, f.b, f.a, u.b) {
+        if same_products(u.a, f.c, f.a, u.c) {
+            same_products(u.b, f.c, f.b, u.c)
         } else {
             false
         }
@@ -75,46 +115,39 @@ fn are_parallel(a: i64, b: i64, c: i64, d: i64, e: i64, f: i64) -> bool
     }
 }
 
-// Whether a point and the ends of a stretch lie on one line.
+// Whether v and the ends of a stretch, p and q, lie on one line.
 #[inline(always)]
-fn is_on_line(x1: i64, y1: i64, z1: i64, x2: i64, y2: i64, z2: i64, x: i64, y: i64, z: i64) -> bool
-    requires stretch { IsSpan ((x1, y1, z1), (x2, y2, z2)) }
-    requires point { IsPoint (x, y, z) }
-    ensures { result ≡ are_aligned (x1, y1, z1) (x, y, z) (x2, y2, z2) }
+fn is_on_line(p: Point, q: Point, v: Point) -> bool
+    requires stretch { IsSpan ((p.x, p.y, p.z), (q.x, q.y, q.z)) }
+    requires point { IsPoint (v.x, v.y, v.z) }
+    ensures { result ≡ are_aligned (p.x, p.y, p.z) (v.x, v.y, v.z) (q.x, q.y, q.z) }
 {
-    are_parallel(
-        distance(x, x1),
-        distance(y, y1),
-        distance(z, z1),
-        distance(x2, x1),
-        distance(y2, y1),
-        distance(z2, z1),
-    )
+    are_parallel(step_between(p, v), step_between(p, q))
 }
 
-// Whether a point on the line of a stretch lies between its ends, so that it leaves the stretch as it is.
+// Whether v lies on the line of a stretch and between its ends, p and q, so that it leaves the stretch as it is.
 #[inline(always)]
-fn is_within(x1: i64, y1: i64, z1: i64, x2: i64, y2: i64, z2: i64, x: i64, y: i64, z: i64) -> bool
-    requires { IsSpan ((x1, y1, z1), (x2, y2, z2)) }
-    ensures { IsTrue result → plane_join (Span x1 y1 z1 x2 y2 z2) (plane_of ((x, y, z) ∷ [])) ≡ Span x1 y1 z1 x2 y2 z2 }
+fn is_within(p: Point, q: Point, v: Point) -> bool
+    requires { IsSpan ((p.x, p.y, p.z), (q.x, q.y, q.z)) }
+    ensures { IsTrue result → plane_join (Span p.x p.y p.z q.x q.y q.z) (plane_of ((v.x, v.y, v.z) ∷ [])) ≡ Span p.x p.y p.z q.x q.y q.z }
 {
-    if !is_in_space(x, y, z) {
+    if !is_in_space(v) {
         return false;
     }
-    if !is_before(x1, y1, z1, x, y, z) {
+    if !is_before(p, v) {
         return false;
     }
-    if !is_before(x, y, z, x2, y2, z2) {
+    if !is_before(v, q) {
         return false;
     }
-    is_on_line(x1, y1, z1, x2, y2, z2, x, y, z)
+    is_on_line(p, q, v)
 }
 
 // Whether a point leaves a plane or a stretch of a line as it is.
 #[inline(always)]
-fn stays_at(state: &State, x: i64, y: i64, z: i64) -> bool
+fn stays_at(state: &State, v: Point) -> bool
     requires { IsPlaneState state.now }
-    ensures { IsTrue result → plane_join state.now (plane_of ((x, y, z) ∷ [])) ≡ state.now }
+    ensures { IsTrue result → plane_join state.now (plane_of ((v.x, v.y, v.z) ∷ [])) ≡ state.now }
 {
     match state {
         State::Span {
@@ -124,20 +157,20 @@ fn stays_at(state: &State, x: i64, y: i64, z: i64) -> bool
             x2,
             y2,
             z2,
-        } => is_within(*x1, *y1, *z1, *x2, *y2, *z2, x, y, z),
-        _ => plane_stays(state, x, y, z),
+        } => is_within(Point::new(*x1, *y1, *z1), Point::new(*x2, *y2, *z2), v),
+        _ => plane_stays(state, v.x, v.y, v.z),
     }
 }
 
-// Whether a stretch with a point more, which is after its last one, ends at the point.
+// Whether a stretch, from p to q, with a point v more, which is after q, ends at v.
 #[inline(always)]
-fn reaches(x1: i64, y1: i64, z1: i64, x2: i64, y2: i64, z2: i64, x: i64, y: i64, z: i64) -> bool
-    requires stretch { IsSpan ((x1, y1, z1), (x2, y2, z2)) }
-    requires after { is_before (x, y, z) (x2, y2, z2) ≡ false }
-    ensures { IsTrue result → Span x1 y1 z1 x y z ≡ plane_join (Span x1 y1 z1 x2 y2 z2) (plane_of ((x, y, z) ∷ [])) }
+fn reaches(p: Point, q: Point, v: Point) -> bool
+    requires stretch { IsSpan ((p.x, p.y, p.z), (q.x, q.y, q.z)) }
+    requires after { is_before (v.x, v.y, v.z) (q.x, q.y, q.z) ≡ false }
+    ensures { IsTrue result → Span p.x p.y p.z v.x v.y v.z ≡ plane_join (Span p.x p.y p.z q.x q.y q.z) (plane_of ((v.x, v.y, v.z) ∷ [])) }
 {
-    if is_in_space(x, y, z) {
-        is_on_line(x1, y1, z1, x2, y2, z2, x, y, z)
+    if is_in_space(v) {
+        is_on_line(p, q, v)
     } else {
         false
     }
@@ -145,10 +178,10 @@ fn reaches(x1: i64, y1: i64, z1: i64, x2: i64, y2: i64, z2: i64, x: i64, y: i64,
 
 // Whether the state, a stretch of a line that ends before the point, ends at the point with it.
 #[inline(always)]
-fn grows(state: &State, x: i64, y: i64, z: i64) -> bool
+fn grows(state: &State, v: Point) -> bool
     requires state { IsPlaneState state.now }
-    requires after { may_stay state.now x y z ≡ false }
-    ensures state { IsTrue result → prolonged state.now x y z ≡ plane_join state.now (plane_of ((x, y, z) ∷ [])) }
+    requires after { may_stay state.now v.x v.y v.z ≡ false }
+    ensures state { IsTrue result → prolonged state.now v.x v.y v.z ≡ plane_join state.now (plane_of ((v.x, v.y, v.z) ∷ [])) }
     ensures unbroken { IsTrue result → state.now ≢ Broken }
 {
     match state {
@@ -159,18 +192,18 @@ fn grows(state: &State, x: i64, y: i64, z: i64) -> bool
             x2,
             y2,
             z2,
-        } => reaches(*x1, *y1, *z1, *x2, *y2, *z2, x, y, z),
+        } => reaches(Point::new(*x1, *y1, *z1), Point::new(*x2, *y2, *z2), v),
         _ => false,
     }
 }
 
 // Whether the state isn't a stretch of a line that ends before the point. One that does moves.
 #[inline(always)]
-fn may_stay(state: &State, x: i64, y: i64, z: i64) -> bool
-    ensures { result ≡ may_stay state.now x y z }
+fn may_stay(state: &State, v: Point) -> bool
+    ensures { result ≡ may_stay state.now v.x v.y v.z }
 {
     match state {
-        State::Span { x2, y2, z2, .. } => is_before(x, y, z, *x2, *y2, *z2),
+        State::Span { x2, y2, z2, .. } => is_before(v, Point::new(*x2, *y2, *z2)),
         _ => true,
     }
 }
@@ -188,19 +221,19 @@ pub(crate) enum Seen {
 
 // What a point makes of a slot of LinearTernary, which is a plane or a stretch of a line.
 #[inline(always)]
-fn seen_at(slot: &Slot, growth: Growth) -> Seen
+fn seen_at(slot: &Slot, place: usize, v: Point) -> Seen
     requires row { slot.now.row.0 ≡ number.linear_ternary }
     requires proper { IsProper (form_of slot.now.row) slot.now.state }
-    ensures { IsSeen slot.now (plane_join slot.now.state (plane_of ((growth.x, growth.y, growth.z) ∷ []))) growth.place result }
+    ensures { IsSeen slot.now (plane_join slot.now.state (plane_of ((v.x, v.y, v.z) ∷ []))) place result }
 {
-    if may_stay(&slot.state, growth.x, growth.y, growth.z) {
-        if stays_at(&slot.state, growth.x, growth.y, growth.z) {
+    if may_stay(&slot.state, v) {
+        if stays_at(&slot.state, v) {
             Seen::Stays
         } else {
             Seen::Neither
         }
-    } else if grows(&slot.state, growth.x, growth.y, growth.z) {
-        Seen::Grows(growth)
+    } else if grows(&slot.state, v) {
+        Seen::Grows(Growth { place, end: v })
     } else {
         Seen::Neither
     }
@@ -227,7 +260,7 @@ fn seen_by(slot: &Slot, sample: &[View<'_>], place: usize, u: VarId, v: VarId, w
         number_at(sample, v),
         number_at(sample, w),
     ) {
-        (Some(x), Some(y), Some(z)) => seen_at(slot, Growth { place, x, y, z }),
+        (Some(x), Some(y), Some(z)) => seen_at(slot, place, Point { x, y, z }),
         _ => {
             if are_present(sample, u, v, w) {
                 Seen::Neither
@@ -267,17 +300,17 @@ pub(crate) fn seen_with(slot: &Slot, sample: &[View<'_>], place: usize) -> Seen
 }
 
 // A stretch of a line gets another last point.
-fn prolong(state: &mut State, x: i64, y: i64, z: i64)
-    ensures { state.new ≡ prolonged state.old x y z }
+fn prolong(state: &mut State, end: Point)
+    ensures { state.new ≡ prolonged state.old end.x end.y end.z }
 {
     if let State::Span { x2, .. } = state {
-        *x2 = x;
+        *x2 = end.x;
     }
     if let State::Span { y2, .. } = state {
-        *y2 = y;
+        *y2 = end.y;
     }
     if let State::Span { z2, .. } = state {
-        *z2 = z;
+        *z2 = end.z;
     }
 }
 
@@ -285,5 +318,5 @@ fn prolong(state: &mut State, x: i64, y: i64, z: i64)
 pub(crate) fn grow(slot: &mut Slot, growth: Growth)
     ensures { slot.new ≡ with_state slot.old (grown_state slot.old growth) }
 {
-    prolong(&mut slot.state, growth.x, growth.y, growth.z);
+    prolong(&mut slot.state, growth.end);
 }

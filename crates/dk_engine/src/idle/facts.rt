@@ -209,24 +209,18 @@ pub(crate) fn is_numeric(ranges: &[Range], place: usize, v: VarId) -> bool
     place < ranges.len() && is_of_var(&ranges[place], v)
 }
 
-// Whether it is the comparison of this row of these two.
-fn is_of(one: &Compared, row: RowId, u: VarId, v: VarId) -> bool
-    ensures { result ≡ (one.now.row.0 == row.0 && (one.now.first.0 == u.0 && one.now.second.0 == v.0)) }
+// Whether two comparisons are one.
+fn is_same(one: &Compared, other: Compared) -> bool
+    ensures { result ≡ (one.now.row.0 == other.row.0 && (one.now.first.0 == other.first.0 && one.now.second.0 == other.second.0)) }
 {
-    one.row.0 == row.0 && (one.first.0 == u.0 && one.second.0 == v.0)
+    one.row.0 == other.row.0 && (one.first.0 == other.first.0 && one.second.0 == other.second.0)
 }
 
-/// Whether the comparison of this row of these two is seen to stand at a place.
-pub(crate) fn is_compared(
-    compared: &[Compared],
-    place: usize,
-    row: RowId,
-    u: VarId,
-    v: VarId,
-) -> bool
-    ensures { IsTrue result → is_compared compared.now row.0 u v ≡ true }
+/// Whether a comparison is seen to stand at a place.
+pub(crate) fn is_compared(compared: &[Compared], place: usize, one: Compared) -> bool
+    ensures { IsTrue result → is_compared compared.now one.row.0 one.first one.second ≡ true }
 {
-    place < compared.len() && is_of(&compared[place], row, u, v)
+    place < compared.len() && is_same(&compared[place], one)
 }
 
 /// Bounds of variables, each listed once, and by a variable's number at which place its bounds are.
@@ -312,40 +306,38 @@ impl Ranges {
     }
 }
 
-// Whether a row of a comparison says of a variable and itself that they are equal, or the one at most the other.
-fn is_own(row: RowId, u: VarId, v: VarId) -> bool
-    ensures { result ≡ is_own row.0 u v }
+// Whether a comparison says of a variable and itself that they are equal, or the one at most the other.
+fn is_own(one: Compared) -> bool
+    ensures { result ≡ is_own one.row.0 one.first one.second }
 {
-    u.0 == v.0 && (row.0 == rows::EQ_INT || row.0 == rows::LE)
+    one.first.0 == one.second.0 && (one.row.0 == rows::EQ_INT || one.row.0 == rows::LE)
 }
 
 // Whether it is so of a variable that has numbers.
-fn is_own_number(ranges: &[Range], places: &[usize], row: RowId, u: VarId, v: VarId) -> bool
-    ensures { IsTrue result → (is_own row.0 u v && is_numeric ranges.now u) ≡ true }
+fn is_own_number(ranges: &[Range], places: &[usize], one: Compared) -> bool
+    ensures { IsTrue result → (is_own one.row.0 one.first one.second && is_numeric ranges.now one.first) ≡ true }
 {
-    is_own(row, u, v) && is_numeric(ranges, place_of(places, u), u)
+    is_own(one) && is_numeric(ranges, place_of(places, one.first), one.first)
 }
 
 // Whether it says that the first of two is less, and they are among those whose numbers rise.
-fn is_in_chain(rising: &[VarId], places: &[usize], row: RowId, u: VarId, v: VarId) -> bool
-    ensures { IsTrue result → (row.0 == number.lt && are_in_order rising.now u v) ≡ true }
+fn is_in_chain(rising: &[VarId], places: &[usize], one: Compared) -> bool
+    ensures { IsTrue result → (one.row.0 == number.lt && are_in_order rising.now one.first one.second) ≡ true }
 {
-    row.0 == rows::LT && are_in_order(rising, places, u, v)
+    one.row.0 == rows::LT && are_in_order(rising, places, one.first, one.second)
 }
 
-/// Whether the comparison of this row of these two is seen to be told by other facts than comparisons.
+/// Whether a comparison is seen to be told by other facts than comparisons.
 pub(crate) fn is_told(
     ranges: &[Range],
     range_places: &[usize],
     rising: &[VarId],
     rising_places: &[usize],
-    row: RowId,
-    u: VarId,
-    v: VarId,
+    one: Compared,
 ) -> bool
-    ensures { IsTrue result → is_told ranges.now rising.now row.0 u v ≡ true }
+    ensures { IsTrue result → is_told ranges.now rising.now one.row.0 one.first one.second ≡ true }
 {
-    is_own_number(ranges, range_places, row, u, v) || is_in_chain(rising, rising_places, row, u, v)
+    is_own_number(ranges, range_places, one) || is_in_chain(rising, rising_places, one)
 }
 
 // The comparison that a slot says to be so.
@@ -370,9 +362,7 @@ fn is_told_by(ranges: &Ranges, chain: &Chain, one: &Compared) -> bool {
         ranges.places.as_slice(),
         chain.vars.as_slice(),
         chain.places.as_slice(),
-        one.row,
-        one.first,
-        one.second,
+        *one,
     )
 }
 

@@ -43,20 +43,14 @@ fn view_of<'a>(value: &'a Value, texts: &'a [&'a [u8]]) -> View<'a>
     }
 }
 
-// A row's state of the tuple of one value, whose strings are laid out.
-fn point_of_one_shown<'x>(
-    alloc: Global,
-    row: RowId,
-    a: &'x Value,
-    first: &'x [&'x [u8]],
-) -> Result<State, NoMemory>
+// A row's state of the tuple of one view.
+fn point_of_one_view(alloc: Global, row: RowId, a: View<'_>) -> Result<State, NoMemory>
     requires row { IsRow row }
-    requires tuple { IsTuple (role_kinds row) (a.now ∷ []) }
-    requires first { IsLaidOut a.now first.now }
-    ensures state { IfOk result (λ s. s ≡ state_of row ((a.now ∷ []) ∷ [])) }
+    requires tuple { IsTuple (role_kinds row) (value_of a ∷ []) }
+    ensures state { IfOk result (λ s. s ≡ state_of row ((value_of a.entry ∷ []) ∷ [])) }
     ensures err { OnErr result (IsTrue (wants_memory row)) }
 {
-    let tuple = [view_of(a, first)];
+    let tuple = [a];
     point(alloc, row, &tuple)
 }
 
@@ -68,26 +62,22 @@ pub(crate) fn point_of_one(alloc: Global, row: RowId, a: &Value) -> Result<State
     ensures err { OnErr result (IsTrue (wants_memory row)) }
 {
     let first = laid_out(alloc, a)?;
-    point_of_one_shown(alloc, row, a, first.as_slice())
+    point_of_one_view(alloc, row, view_of(a, first.as_slice()))
 }
 
-// A row's state of the tuple of two values, whose strings are laid out.
-fn point_of_two_shown<'x>(
+// A row's state of the tuple of two views.
+fn point_of_two_views(
     alloc: Global,
     row: RowId,
-    a: &'x Value,
-    b: &'x Value,
-    first: &'x [&'x [u8]],
-    second: &'x [&'x [u8]],
+    a: View<'_>,
+    b: View<'_>,
 ) -> Result<State, NoMemory>
     requires row { IsRow row }
-    requires tuple { IsTuple (role_kinds row) (a.now ∷ b.now ∷ []) }
-    requires first { IsLaidOut a.now first.now }
-    requires second { IsLaidOut b.now second.now }
-    ensures state { IfOk result (λ s. s ≡ state_of row ((a.now ∷ b.now ∷ []) ∷ [])) }
+    requires tuple { IsTuple (role_kinds row) (value_of a ∷ value_of b ∷ []) }
+    ensures state { IfOk result (λ s. s ≡ state_of row ((value_of a.entry ∷ value_of b.entry ∷ []) ∷ [])) }
     ensures err { OnErr result (IsTrue (wants_memory row)) }
 {
-    let tuple = [view_of(a, first), view_of(b, second)];
+    let tuple = [a, b];
     point(alloc, row, &tuple)
 }
 
@@ -112,29 +102,28 @@ pub(crate) fn point_of_two(
     }
     let first = laid_out(alloc, a)?;
     let second = laid_out(alloc, b)?;
-    point_of_two_shown(alloc, row, a, b, first.as_slice(), second.as_slice())
+    point_of_two_views(
+        alloc,
+        row,
+        view_of(a, first.as_slice()),
+        view_of(b, second.as_slice()),
+    )
 }
 
-// A row's state of the tuple of three values, whose strings are laid out.
-fn point_of_three_shown<'x>(
+// A row's state of the tuple of three views.
+fn point_of_three_views(
     alloc: Global,
     row: RowId,
-    a: &'x Value,
-    b: &'x Value,
-    c: &'x Value,
-    first: &'x [&'x [u8]],
-    second: &'x [&'x [u8]],
-    third: &'x [&'x [u8]],
+    a: View<'_>,
+    b: View<'_>,
+    c: View<'_>,
 ) -> Result<State, NoMemory>
     requires row { IsRow row }
-    requires tuple { IsTuple (role_kinds row) (a.now ∷ b.now ∷ c.now ∷ []) }
-    requires first { IsLaidOut a.now first.now }
-    requires second { IsLaidOut b.now second.now }
-    requires third { IsLaidOut c.now third.now }
-    ensures state { IfOk result (λ s. s ≡ state_of row ((a.now ∷ b.now ∷ c.now ∷ []) ∷ [])) }
+    requires tuple { IsTuple (role_kinds row) (value_of a ∷ value_of b ∷ value_of c ∷ []) }
+    ensures state { IfOk result (λ s. s ≡ state_of row ((value_of a.entry ∷ value_of b.entry ∷ value_of c.entry ∷ []) ∷ [])) }
     ensures err { OnErr result (IsTrue (wants_memory row)) }
 {
-    let tuple = [view_of(a, first), view_of(b, second), view_of(c, third)];
+    let tuple = [a, b, c];
     point(alloc, row, &tuple)
 }
 
@@ -154,14 +143,11 @@ pub(crate) fn point_of_three(
     let first = laid_out(alloc, a)?;
     let second = laid_out(alloc, b)?;
     let third = laid_out(alloc, c)?;
-    point_of_three_shown(
+    point_of_three_views(
         alloc,
         row,
-        a,
-        b,
-        c,
-        first.as_slice(),
-        second.as_slice(),
-        third.as_slice(),
+        view_of(a, first.as_slice()),
+        view_of(b, second.as_slice()),
+        view_of(c, third.as_slice()),
     )
 }

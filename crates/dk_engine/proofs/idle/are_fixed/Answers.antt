@@ -8,14 +8,20 @@ pub returns-then-is_fixed-2 : goal.returns-then-is_fixed-2
 returns-then-is_fixed-2 c h =
     let x = c.args in
     let ranges = x.ranges.now in
-    let second : is_fixed ranges x.v x.b x.c x.a x.d ≡ true = search rules in
-    or_right (is_fixed ranges x.u x.a x.b x.c x.d) (is_fixed ranges x.v x.b x.c x.a x.d || is_fixed ranges x.w x.c x.a x.b x.d)
-    (or_left (is_fixed ranges x.v x.b x.c x.a x.d) (is_fixed ranges x.w x.c x.a x.b x.d) second)
+    let n = x.plane in
+    let m = c.turned-next.result in
+    let told : is_fixed ranges x.vars.v m.a m.b m.c m.d ≡ true = search rules in
+    let second : is_fixed ranges x.vars.v n.b n.c n.a n.d ≡ true = rw c.turned-next.ensures at told in
+    or_right (is_fixed ranges x.vars.u n.a n.b n.c n.d) (is_fixed ranges x.vars.v n.b n.c n.a n.d || is_fixed ranges x.vars.w n.c n.a n.b n.d)
+    (or_left (is_fixed ranges x.vars.v n.b n.c n.a n.d) (is_fixed ranges x.vars.w n.c n.a n.b n.d) second)
 
 pub returns-else-is_fixed-2 : goal.returns-else-is_fixed-2
 returns-else-is_fixed-2 c h =
     let x = c.args in
     let ranges = x.ranges.now in
-    let third : is_fixed ranges x.w x.c x.a x.b x.d ≡ true = search rules in
-    or_right (is_fixed ranges x.u x.a x.b x.c x.d) (is_fixed ranges x.v x.b x.c x.a x.d || is_fixed ranges x.w x.c x.a x.b x.d)
-    (or_right (is_fixed ranges x.v x.b x.c x.a x.d) (is_fixed ranges x.w x.c x.a x.b x.d) third)
+    let n = x.plane in
+    let m = c.turned.result in
+    let told : is_fixed ranges x.vars.w m.a m.b m.c m.d ≡ true = search rules in
+    let third : is_fixed ranges x.vars.w n.c n.a n.b n.d ≡ true = rw (c.turned.ensures, c.turned-next.ensures) at told in
+    or_right (is_fixed ranges x.vars.u n.a n.b n.c n.d) (is_fixed ranges x.vars.v n.b n.c n.a n.d || is_fixed ranges x.vars.w n.c n.a n.b n.d)
+    (or_right (is_fixed ranges x.vars.v n.b n.c n.a n.d) (is_fixed ranges x.vars.w n.c n.a n.b n.d) third)

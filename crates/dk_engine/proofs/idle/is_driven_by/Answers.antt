@@ -7,6 +7,8 @@ use Rattle.dk_engine.proofs.idle.is_driven_by.Goals as goal
 
 pub returns-else-is_driver : goal.returns-else-is_driver
 returns-else-is_driver c h =
-    let x = c.args in
-    let still : (int_eq x.a x.b && (is_above x.ranges.now x.v x.a && is_below x.ranges.now x.v x.a)) ≡ true = search rules in
-    or_right (x.v.0 == x.driver.var.0 && (int_eq x.a x.driver.first && int_eq x.b x.driver.last)) (int_eq x.a x.b && (is_above x.ranges.now x.v x.a && is_below x.ranges.now x.v x.a)) still
+    let ranges = c.args.ranges.now in
+    let driver = c.args.driver in
+    let one = c.args.one in
+    let still : (int_eq one.first one.last && (is_above ranges one.var one.first && is_below ranges one.var one.first)) ≡ true = search rules in
+    or_right (one.var.0 == driver.var.0 && (int_eq one.first driver.first && int_eq one.last driver.last)) (int_eq one.first one.last && (is_above ranges one.var one.first && is_below ranges one.var one.first)) still

@@ -8,9 +8,7 @@ pub returns-then-is_idle_over : goal.returns-then-is_idle_over
 returns-then-is_idle_over c h =
     let watch = c.args.watch.now in
     let slot = c.args.slot.now in
-    let u = c.args.u in
-    let v = c.args.v in
-    let w = c.args.w in
-    let over : is_idle_over watch.ranges.items u v w slot.state ≡ true = search rules in
-    let near : are_near_each watch.ranges.items u v w ≡ true = search rules in
-    idle_slot watch slot c.requires.row u v w c.requires.leaders over near
+    let vars = c.args.vars in
+    let over : is_idle_over watch.ranges.items vars.u vars.v vars.w slot.state ≡ true = search rules in
+    let near : are_near_each watch.ranges.items vars.u vars.v vars.w ≡ true = search rules in
+    idle_slot watch slot c.requires.row vars.u vars.v vars.w c.requires.leaders over near

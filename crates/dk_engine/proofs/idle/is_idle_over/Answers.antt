@@ -4,9 +4,10 @@ use Rattle.dk_forms.specs.declared.states.State.{State}
 use Rattle.dk_engine.specs.Idle.{are_fixed, are_same, is_idle_over}
 use Rattle.dk_engine.proofs.idle.is_idle_over.Goals as goal
 
-pub returns-in-Plane : goal.returns-in-Plane
-returns-in-Plane c h =
-    let x = c.args in
-    let p = c.in-Plane in
-    let told : (are_same x.u x.v x.w p.a p.b p.c p.d || are_fixed x.ranges.now x.u x.v x.w p.a p.b p.c p.d) ≡ true = search rules in
-    subst (λ (s : State). is_idle_over x.ranges.now x.u x.v x.w s ≡ true) (sym p.is) told
+pub returns-in-Some : goal.returns-in-Some
+returns-in-Some c h =
+    let ranges = c.args.ranges.now in
+    let vars = c.args.vars in
+    let n = c.in-Some.plane in
+    let told : (are_same vars.u vars.v vars.w n.a n.b n.c n.d || are_fixed ranges vars.u vars.v vars.w n.a n.b n.c n.d) ≡ true = search rules in
+    subst (λ (s : State). is_idle_over ranges vars.u vars.v vars.w s ≡ true) (sym c.in-Some.ensures) told

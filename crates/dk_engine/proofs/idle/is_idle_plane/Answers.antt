@@ -6,6 +6,8 @@ use Rattle.dk_engine.proofs.idle.is_idle_plane.Goals as goal
 
 pub returns-else-are_same : goal.returns-else-are_same
 returns-else-are_same c h =
-    let x = c.args in
-    let fixed : are_fixed x.ranges.now x.u x.v x.w x.a x.b x.c x.d ≡ true = search rules in
-    or_right (are_same x.u x.v x.w x.a x.b x.c x.d) (are_fixed x.ranges.now x.u x.v x.w x.a x.b x.c x.d) fixed
+    let ranges = c.args.ranges.now in
+    let vars = c.args.vars in
+    let n = c.args.plane in
+    let fixed : are_fixed ranges vars.u vars.v vars.w n.a n.b n.c n.d ≡ true = search rules in
+    or_right (are_same vars.u vars.v vars.w n.a n.b n.c n.d) (are_fixed ranges vars.u vars.v vars.w n.a n.b n.c n.d) fixed

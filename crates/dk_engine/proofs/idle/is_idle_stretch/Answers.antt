@@ -6,7 +6,9 @@ use Rattle.dk_engine.proofs.idle.is_idle_stretch.Goals as goal
 
 pub returns-in-Some : goal.returns-in-Some
 returns-in-Some c h =
-    let x = c.args in
+    let watch = c.args.watch.now in
+    let slot = c.args.slot.now in
+    let vars = c.args.vars in
     let d = c.in-Some.driver in
-    let driven : is_driven_stretch x.watch.now.ranges.items d.var d.first d.last x.u x.v x.w x.slot.now.state ≡ true = search rules in
-    idle_stretch x.watch.now x.slot.now c.requires.row d.var d.first d.last x.u x.v x.w c.requires.leaders driven
+    let driven : is_driven_stretch watch.ranges.items d.var d.first d.last vars.u vars.v vars.w slot.state ≡ true = search rules in
+    idle_stretch watch slot c.requires.row d.var d.first d.last vars.u vars.v vars.w c.requires.leaders driven

@@ -7,16 +7,16 @@ use Rattle.dk_engine.proofs.feed.growing.is_within.Goals as goal
 
 pub is_on_line-requires-clause-point : goal.is_on_line-requires-clause-point
 is_on_line-requires-clause-point c =
-    let v : ℤ × ℤ × ℤ = (c.args.x, c.args.y, c.args.z) in
+    let v : ℤ × ℤ × ℤ = (c.args.v.x, c.args.v.y, c.args.v.z) in
     let near : in_space v ≡ true = search rules in
     let point : IsPoint v = point_of_limit v near in
     search (rules, point)
 
 pub returns : goal.returns
 returns c fits =
-    let p : ℤ × ℤ × ℤ = (c.args.x1, c.args.y1, c.args.z1) in
-    let q : ℤ × ℤ × ℤ = (c.args.x2, c.args.y2, c.args.z2) in
-    let v : ℤ × ℤ × ℤ = (c.args.x, c.args.y, c.args.z) in
+    let p : ℤ × ℤ × ℤ = (c.args.p.x, c.args.p.y, c.args.p.z) in
+    let q : ℤ × ℤ × ℤ = (c.args.q.x, c.args.q.y, c.args.q.z) in
+    let v : ℤ × ℤ × ℤ = (c.args.v.x, c.args.v.y, c.args.v.z) in
     let near : in_space v ≡ true = search rules in
     let behind : is_before p v ≡ true = search rules in
     let before : is_before v q ≡ true = search rules in
