@@ -9,3 +9,4 @@ pub mod Suited
 pub mod Numbers
 pub mod Beside
 pub mod Noted
+pub mod Triples

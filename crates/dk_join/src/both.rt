@@ -1,7 +1,7 @@
 // What two engines say together.
-ghost use Rattle.std.specs.Prelude.{◌≡◌, ◌∷◌, [], IfOk, IsTrue, OnErr};
+ghost use Rattle.std.specs.Prelude.{◌≡◌, IfOk, IsTrue, OnErr};
 ghost use Rattle.dk_join.specs.Beside.{HaveSamples};
-ghost use Rattle.dk_join.specs.Numbers.{numbers_of};
+ghost use Rattle.dk_join.specs.Triples.{AreNumbered, vars_of};
 ghost use Rattle.dk_join.specs.Joining.{AreAlike, agree_joined, answer_of, count_joined};
 ghost use Rattle.dk_engine.specs.Reading.{state_read};
 ghost use Rattle.dk_template.specs.Admitted.{admits};
@@ -12,7 +12,7 @@ ghost use Rattle.dk_template.specs.Templates.{IsRowOf, arity_of, form_of};
 
 use crate::noted::Noted;
 use crate::numbers::Numbered;
-use crate::threes::state_of_three;
+use crate::threes::{Triple, state_of_three};
 use dk_base::{NoMemory, VarId, VarInfo};
 use dk_engine::Engine;
 use dk_template::{Answers, RowId, State, join_states, template_at};
@@ -101,46 +101,25 @@ impl<'a> Both<'a> {
     pub(crate) fn state_of_three(
         &self,
         places: &mut Places,
-        row: RowId,
-        v: Numbered,
-        w: Numbered,
-        x: Numbered,
+        triple: Triple<Numbered>,
     ) -> Result<State, NoMemory>
         requires some { HaveSamples self.now }
-        requires row { IsRowOf self.now.first.grammar row }
-        requires three { arity_of row ≡ 3 }
-        requires vars { IsTrue (admits row self.now.first.infos (v.var ∷ w.var ∷ x.var ∷ [])) }
-        requires v { v.numbers ≡ numbers_of self.now v.var }
-        requires w { w.numbers ≡ numbers_of self.now w.var }
-        requires x { x.numbers ≡ numbers_of self.now x.var }
-        ensures state { IfOk result (λ s. s ≡ answer_of self.now row (v.var ∷ w.var ∷ x.var ∷ [])) }
-        ensures proper { IfOk result (λ s. IsProper (form_of row) s) }
-        ensures err { OnErr result (MayWantMemory row) }
+        requires row { IsRowOf self.now.first.grammar triple.row }
+        requires three { arity_of triple.row ≡ 3 }
+        requires vars { IsTrue (admits triple.row self.now.first.infos (vars_of triple)) }
+        requires numbers { AreNumbered self.now triple }
+        ensures state { IfOk result (λ s. s ≡ answer_of self.now triple.row (vars_of triple)) }
+        ensures proper { IfOk result (λ s. IsProper (form_of triple.row) s) }
+        ensures err { OnErr result (MayWantMemory triple.row) }
     {
         let place = &mut places.first;
-        let state = state_of_three(
-            self.alloc,
-            &self.first,
-            place,
-            row,
-            v.first(),
-            w.first(),
-            x.first(),
-        )?;
+        let state = state_of_three(self.alloc, &self.first, place, triple.first())?;
         if matches!(state, State::Broken) {
             return Ok(State::Broken);
         }
         let place = &mut places.second;
-        let other = state_of_three(
-            self.alloc,
-            &self.second,
-            place,
-            row,
-            v.second(),
-            w.second(),
-            x.second(),
-        )?;
-        join_states(template_at(row).form, self.alloc, state, &other)
+        let other = state_of_three(self.alloc, &self.second, place, triple.second())?;
+        join_states(template_at(triple.row).form, self.alloc, state, &other)
     }
 
     // The state of a row over variables. What is Broken for one is Broken for both, so then the second isn't asked.

@@ -1,9 +1,10 @@
 // The numbers of constant leaders, by which a row with a relation is Broken.
 ghost use Rattle.std.specs.Prelude.{◌≡◌, ◌<◌, length, option_copied};
 ghost use Rattle.dk_join.specs.Numbers.{are_broken, break_operation, int_in, number_of, numbers_of};
+ghost use Rattle.dk_join.specs.Triples.{told_first, told_second};
 
 use crate::constants::known_of;
-use crate::threes::Told;
+use crate::threes::{Told, Triple};
 use dk_base::{Value, VarId};
 use dk_engine::Engine;
 use dk_ternary::Operation;
@@ -57,7 +58,7 @@ pub(crate) struct Numbered {
 impl Numbered {
     /// With its number in the first.
     pub(crate) fn first(self) -> Told
-        ensures { result ≡ record { var = self.var; number = self.numbers.first } }
+        ensures { result ≡ told_first self }
     {
         Told {
             var: self.var,
@@ -67,11 +68,37 @@ impl Numbered {
 
     /// With its number in the second.
     pub(crate) fn second(self) -> Told
-        ensures { result ≡ record { var = self.var; number = self.numbers.second } }
+        ensures { result ≡ told_second self }
     {
         Told {
             var: self.var,
             number: self.numbers.second,
+        }
+    }
+}
+
+impl Triple<Numbered> {
+    /// With the numbers in the first.
+    pub(crate) fn first(self) -> Triple<Told>
+        ensures { result ≡ record { row = self.row; v = told_first self.v; w = told_first self.w; x = told_first self.x } }
+    {
+        Triple {
+            row: self.row,
+            v: self.v.first(),
+            w: self.w.first(),
+            x: self.x.first(),
+        }
+    }
+
+    /// With those in the second.
+    pub(crate) fn second(self) -> Triple<Told>
+        ensures { result ≡ record { row = self.row; v = told_second self.v; w = told_second self.w; x = told_second self.x } }
+    {
+        Triple {
+            row: self.row,
+            v: self.v.second(),
+            w: self.w.second(),
+            x: self.x.second(),
         }
     }
 }

@@ -1,22 +1,22 @@
 // The slots that both engines give, over the tuples of leaders. A tuple of three is passed over where what an engine keeps leaves no
 // room for it.
-ghost use Rattle.std.specs.Prelude.{◌≡◌, ◌≤◌, ◌++◌, [], ◌∷◌, false, All, IfOk, IfSome, IsTrue, filter, length, map};
+ghost use Rattle.std.specs.Prelude.{◌≡◌, ◌≤◌, ◌++◌, [], ◌∷◌, false, All, IfOk, IsTrue, filter, length, map};
 ghost use Rattle.dk_engine.specs.Feeding.{slots_of, slots_of_row};
 ghost use Rattle.dk_engine.specs.Sweeps.Suited.{suited_vars};
 ghost use Rattle.dk_engine.specs.Sweeps.{behind, considered, firsts, pairs, seconds, thirds, triples};
 ghost use Rattle.dk_join.specs.Beside.{AreAtHand, AreLed, HaveSamples, IsCompanion, is_near};
 ghost use Rattle.dk_join.specs.Joining.{answer_of};
-ghost use Rattle.dk_join.specs.Numbers.{numbers_of};
 ghost use Rattle.dk_join.specs.Suited.{suited_to_some, suits_some};
+ghost use Rattle.dk_join.specs.Triples.{AreNumbered, IsWalk, vars_of, with_third};
 ghost use Rattle.dk_template.specs.Admitted.{admits, is_written};
 ghost use Rattle.dk_template.specs.Templates.{IsRowOf, arity_of};
-ghost use Rattle.dk_ternary.specs.Rows.{operation_row};
 ghost use Rattle.dk_engine.specs.Reading.Parts.{all_known};
 
 use crate::beside::{Around, Companion, Hands, companions, has_room, is_beside_both, near};
 use crate::both::{Both, Places};
 use crate::constants::are_known;
 use crate::numbers::{Numbered, Numbers};
+use crate::threes::Triple;
 use dk_base::{List, NoMemory, VarId, VarInfo};
 use dk_constants::Constants;
 use dk_engine::{Slot, suited_vars};
@@ -32,6 +32,29 @@ fn suits_some(a: Role, b: Role, c: Role, infos: &[VarInfo], v: VarId) -> bool
     ensures { result ≡ suits_some a b c infos.now v }
 {
     suits(a, infos, v) || suits(b, infos, v) || suits(c, infos, v)
+}
+
+/// Two leaders beside which a third is looked for, with the row that it is of and the operation whose results the row says, if it does.
+#[derive(Clone, Copy)]
+pub(crate) struct Walk {
+    pub(crate) row: RowId,
+    pub(crate) operation: Option<Operation>,
+    pub(crate) v: Numbered,
+    pub(crate) w: Companion,
+}
+
+impl Walk {
+    // The row over the two leaders and the third.
+    fn with_third(self, x: Companion) -> Triple<Numbered>
+        ensures { result ≡ with_third self x }
+    {
+        Triple {
+            row: self.row,
+            v: self.v,
+            w: self.w.numbered(),
+            x: x.numbered(),
+        }
+    }
 }
 
 /// What a sweep goes by: the two engines, and the constants of both.
@@ -96,28 +119,24 @@ impl<'a> Sweep<'a> {
     fn consider_three(
         &self,
         places: &mut Places,
-        row: RowId,
-        v: Numbered,
-        w: Numbered,
-        x: Numbered,
+        triple: Triple<Numbered>,
         slots: List<Slot>,
     ) -> Result<List<Slot>, NoMemory>
         requires some { HaveSamples self.now.both.now }
-        requires row { IsRowOf self.now.both.now.first.grammar row }
-        requires three { arity_of row ≡ 3 }
-        requires v { v.numbers ≡ numbers_of self.now.both.now v.var }
-        requires w { w.numbers ≡ numbers_of self.now.both.now w.var }
-        requires x { x.numbers ≡ numbers_of self.now.both.now x.var }
-        ensures { IfOk result (λ more. more ≡ slots ++ considered self.now.both.now.first.infos self.now.known.now (answer_of self.now.both.now) row (v.var ∷ w.var ∷ x.var ∷ [])) }
+        requires row { IsRowOf self.now.both.now.first.grammar triple.row }
+        requires three { arity_of triple.row ≡ 3 }
+        requires numbers { AreNumbered self.now.both.now triple }
+        ensures { IfOk result (λ more. more ≡ slots ++ considered self.now.both.now.first.infos self.now.known.now (answer_of self.now.both.now) triple.row (vars_of triple)) }
     {
-        let vars = [v.var, w.var, x.var];
+        let row = triple.row;
+        let vars = [triple.v.var, triple.w.var, triple.x.var];
         if !admits(row, self.both.infos(), &vars)
             || !is_written(row, &vars)
             || are_known(self.known, &vars)
         {
             return Ok(slots);
         }
-        let state = self.both.state_of_three(places, row, v, w, x)?;
+        let state = self.both.state_of_three(places, triple)?;
         self.with_state(row, &vars, state, slots)
     }
 
@@ -157,26 +176,19 @@ impl<'a> Sweep<'a> {
     fn thirds(
         &self,
         places: &mut Places,
-        row: RowId,
-        operation: Option<Operation>,
-        v: Numbered,
-        w: Companion,
+        walk: Walk,
         third: &[Companion],
         slots: List<Slot>,
     ) -> Result<List<Slot>, NoMemory>
         requires some { HaveSamples self.now.both.now }
-        requires row { IsRowOf self.now.both.now.first.grammar row }
-        requires three { arity_of row ≡ 3 }
-        requires operation { IfSome operation (λ o. operation_row o ≡ row) }
-        requires v { v.numbers ≡ numbers_of self.now.both.now v.var }
-        requires w { IsCompanion self.now.both.now row v.var w }
-        requires third { All (IsCompanion self.now.both.now row v.var) third.now }
-        ensures { IfOk result (λ more. more ≡ slots ++ thirds self.now.both.now.first.infos self.now.known.now (answer_of self.now.both.now) row v.var w.leader (map (λ x. x.leader) third.now)) }
+        requires walk { IsWalk self.now.both.now walk }
+        requires third { All (IsCompanion self.now.both.now walk.row walk.v.var) third.now }
+        ensures { IfOk result (λ more. more ≡ slots ++ thirds self.now.both.now.first.infos self.now.known.now (answer_of self.now.both.now) walk.row walk.v.var walk.w.leader (map (λ x. x.leader) third.now)) }
     {
         let mut slots = slots;
         for x in third {
-            if has_room(row, operation, v, w, *x) {
-                slots = self.consider_three(places, row, v, w.numbered(), x.numbered(), slots)?;
+            if has_room(walk.row, walk.operation, walk.v, walk.w, *x) {
+                slots = self.consider_three(places, walk.with_third(*x), slots)?;
             }
         }
         Ok(slots)
@@ -187,28 +199,21 @@ impl<'a> Sweep<'a> {
     fn thirds_beside(
         &self,
         places: &mut Places,
-        row: RowId,
-        operation: Option<Operation>,
-        v: Numbered,
-        w: Companion,
+        walk: Walk,
         beside: &[Companion],
         near: &[Companion],
         slots: List<Slot>,
     ) -> Result<List<Slot>, NoMemory>
         requires some { HaveSamples self.now.both.now }
-        requires row { IsRowOf self.now.both.now.first.grammar row }
-        requires three { arity_of row ≡ 3 }
-        requires operation { IfSome operation (λ o. operation_row o ≡ row) }
-        requires v { v.numbers ≡ numbers_of self.now.both.now v.var }
-        requires w { IsCompanion self.now.both.now row v.var w }
-        requires beside { All (IsCompanion self.now.both.now row v.var) beside.now }
+        requires walk { IsWalk self.now.both.now walk }
+        requires beside { All (IsCompanion self.now.both.now walk.row walk.v.var) beside.now }
         requires near { near.now ≡ filter is_near beside.now }
-        ensures { IfOk result (λ more. more ≡ slots ++ thirds self.now.both.now.first.infos self.now.known.now (answer_of self.now.both.now) row v.var w.leader (map (λ x. x.leader) beside.now)) }
+        ensures { IfOk result (λ more. more ≡ slots ++ thirds self.now.both.now.first.infos self.now.known.now (answer_of self.now.both.now) walk.row walk.v.var walk.w.leader (map (λ x. x.leader) beside.now)) }
     {
-        if is_beside_both(w) {
-            self.thirds(places, row, operation, v, w, beside, slots)
+        if is_beside_both(walk.w) {
+            self.thirds(places, walk, beside, slots)
         } else {
-            self.thirds(places, row, operation, v, w, near, slots)
+            self.thirds(places, walk, near, slots)
         }
     }
 
@@ -276,16 +281,13 @@ impl<'a> Sweep<'a> {
         let close = near(self.alloc, beside.as_slice())?;
         let mut slots = slots;
         for w in &beside {
-            slots = self.thirds_beside(
-                places,
+            let walk = Walk {
                 row,
                 operation,
-                first,
-                *w,
-                beside.as_slice(),
-                close.as_slice(),
-                slots,
-            )?;
+                v: first,
+                w: *w,
+            };
+            slots = self.thirds_beside(places, walk, beside.as_slice(), close.as_slice(), slots)?;
         }
         Ok(slots)
     }

@@ -11,6 +11,7 @@ ghost use Rattle.dk_engine.specs.declared.slots.slot.Slot.{Slot as DeclaredSlot}
 ghost use Rattle.dk_forms.specs.declared.states.State.TheVariants.{Broken};
 ghost use Rattle.dk_join.specs.Noted.{is_behind};
 ghost use Rattle.dk_join.specs.Numbers.{number_of};
+ghost use Rattle.dk_join.specs.Triples.{untold, vars_in};
 ghost use Rattle.dk_meanings.specs.Meanings.{state_of};
 ghost use Rattle.dk_template.specs.Admitted.{admits};
 ghost use Rattle.dk_template.specs.Premises.{MayWantMemory};
@@ -33,12 +34,22 @@ pub(crate) struct Told {
     pub(crate) number: Option<i64>,
 }
 
+/// A row over three variables, or over what is told of them.
+#[derive(Clone, Copy)]
+pub(crate) struct Triple<V> {
+    pub(crate) row: RowId,
+    pub(crate) v: V,
+    pub(crate) w: V,
+    pub(crate) x: V,
+}
+
 // ---- slots
 
 // Whether the slot is seen to come before that of the row over three leaders.
-fn comes_before(slot: &Slot, row: RowId, v: VarId, w: VarId, x: VarId) -> bool
-    ensures { IsTrue result → is_slot_before row (v ∷ w ∷ x ∷ []) slot.now ≡ true }
+fn comes_before(slot: &Slot, triple: Triple<VarId>) -> bool
+    ensures { IsTrue result → is_slot_before triple.row (vars_in triple) slot.now ≡ true }
 {
+    let Triple { row, v, w, x } = triple;
     if slot.row.0 != row.0 {
         return slot.row.0 < row.0;
     }
@@ -49,9 +60,10 @@ fn comes_before(slot: &Slot, row: RowId, v: VarId, w: VarId, x: VarId) -> bool
 }
 
 // Whether it is seen to come behind it.
-fn comes_behind(slot: &Slot, row: RowId, v: VarId, w: VarId, x: VarId) -> bool
-    ensures { IsTrue result → is_behind row (v ∷ w ∷ x ∷ []) slot.now ≡ true }
+fn comes_behind(slot: &Slot, triple: Triple<VarId>) -> bool
+    ensures { IsTrue result → is_behind triple.row (vars_in triple) slot.now ≡ true }
 {
+    let Triple { row, v, w, x } = triple;
     if slot.row.0 != row.0 {
         return row.0 < slot.row.0;
     }
@@ -62,66 +74,67 @@ fn comes_behind(slot: &Slot, row: RowId, v: VarId, w: VarId, x: VarId) -> bool
 }
 
 // Whether the slot before this place, if there is one, is seen to come before that of the row over three leaders.
-fn last_comes_before(slots: &[Slot], place: usize, row: RowId, v: VarId, w: VarId, x: VarId) -> bool
+fn last_comes_before(slots: &[Slot], place: usize, triple: Triple<VarId>) -> bool
     requires { place ≤ length slots.now }
-    ensures { IsTrue result → (k : ℕ) (d : DeclaredSlot) → suc k ≡ place → is_slot_before row (v ∷ w ∷ x ∷ []) (slice_index_or slots.now k d) ≡ true }
+    ensures { IsTrue result → (k : ℕ) (d : DeclaredSlot) → suc k ≡ place → is_slot_before triple.row (vars_in triple) (slice_index_or slots.now k d) ≡ true }
 {
     if place == 0 {
         return true;
     }
-    comes_before(&slots[place - 1], row, v, w, x)
+    comes_before(&slots[place - 1], triple)
 }
 
 // Whether the slot at this place, if there is one, is seen to come behind it.
-fn next_comes_behind(slots: &[Slot], place: usize, row: RowId, v: VarId, w: VarId, x: VarId) -> bool
-    ensures { IsTrue result → (d : DeclaredSlot) → place < length slots.now → is_behind row (v ∷ w ∷ x ∷ []) (slice_index_or slots.now place d) ≡ true }
+fn next_comes_behind(slots: &[Slot], place: usize, triple: Triple<VarId>) -> bool
+    ensures { IsTrue result → (d : DeclaredSlot) → place < length slots.now → is_behind triple.row (vars_in triple) (slice_index_or slots.now place d) ≡ true }
 {
     if place >= slots.len() {
         return true;
     }
-    comes_behind(&slots[place], row, v, w, x)
+    comes_behind(&slots[place], triple)
 }
 
 // Whether no slot of the row over three leaders is there, as is seen by those about this place.
-fn is_gap(slots: &[Slot], place: usize, row: RowId, v: VarId, w: VarId, x: VarId) -> bool
+fn is_gap(slots: &[Slot], place: usize, triple: Triple<VarId>) -> bool
     requires { AllPairs SlotBefore slots.now }
-    ensures { IsTrue result → slot_at slots.now row (v ∷ w ∷ x ∷ []) ≡ None }
+    ensures { IsTrue result → slot_at slots.now triple.row (vars_in triple) ≡ None }
 {
     if place > slots.len() {
         return false;
     }
-    if !last_comes_before(slots, place, row, v, w, x) {
+    if !last_comes_before(slots, place, triple) {
         return false;
     }
-    next_comes_behind(slots, place, row, v, w, x)
+    next_comes_behind(slots, place, triple)
 }
 
 // Whether the place is where the slot would stand, as its two neighbours say.
-fn is_place(slots: &[Slot], place: usize, row: RowId, v: VarId, w: VarId, x: VarId) -> bool {
+fn is_place(slots: &[Slot], place: usize, triple: Triple<VarId>) -> bool {
     let behind = match slots.get(place) {
-        Some(slot) => !comes_before(slot, row, v, w, x),
+        Some(slot) => !comes_before(slot, triple),
         None => true,
     };
     let in_front = match slots.get(place.saturating_sub(1)) {
-        Some(slot) => place == 0 || comes_before(slot, row, v, w, x),
+        Some(slot) => place == 0 || comes_before(slot, triple),
         None => place == 0,
     };
     behind && in_front
 }
 
 // Where the slot would stand: at this place, or where it is found by halving.
-fn place_near(slots: &[Slot], place: usize, row: RowId, v: VarId, w: VarId, x: VarId) -> usize {
-    if is_place(slots, place, row, v, w, x) {
+fn place_near(slots: &[Slot], place: usize, triple: Triple<VarId>) -> usize {
+    if is_place(slots, place, triple) {
         place
     } else {
-        slots.partition_point(|slot| comes_before(slot, row, v, w, x))
+        slots.partition_point(|slot| comes_before(slot, triple))
     }
 }
 
 // Whether it is the slot of the row over three leaders.
-fn is_slot_of(slot: &Slot, row: RowId, v: VarId, w: VarId, x: VarId) -> bool
-    ensures { IsTrue result → is_slot_of row (v ∷ w ∷ x ∷ []) slot.now ≡ true }
+fn is_slot_of(slot: &Slot, triple: Triple<VarId>) -> bool
+    ensures { IsTrue result → is_slot_of triple.row (vars_in triple) slot.now ≡ true }
 {
+    let Triple { row, v, w, x } = triple;
     match slot.leaders.as_slice() {
         [a, b, c] => slot.row.0 == row.0 && (a.0 == v.0 && (b.0 == w.0 && c.0 == x.0)),
         _ => false,
@@ -129,20 +142,13 @@ fn is_slot_of(slot: &Slot, row: RowId, v: VarId, w: VarId, x: VarId) -> bool
 }
 
 // The slot of the row over three leaders, if it is found. It is looked for at this place first, which then is the one behind it.
-fn slot_near<'s>(
-    slots: &'s [Slot],
-    place: &mut usize,
-    row: RowId,
-    v: VarId,
-    w: VarId,
-    x: VarId,
-) -> Option<&'s Slot>
+fn slot_near<'s>(slots: &'s [Slot], place: &mut usize, triple: Triple<VarId>) -> Option<&'s Slot>
     requires { AllPairs SlotBefore slots.now }
-    ensures { IfSome result (λ slot. slot_at slots.now row (v ∷ w ∷ x ∷ []) ≡ Some slot.now.state) }
+    ensures { IfSome result (λ slot. slot_at slots.now triple.row (vars_in triple) ≡ Some slot.now.state) }
 {
-    let at = place_near(slots, *place, row, v, w, x);
+    let at = place_near(slots, *place, triple);
     *place = at;
-    if at < slots.len() && is_slot_of(&slots[at], row, v, w, x) {
+    if at < slots.len() && is_slot_of(&slots[at], triple) {
         *place = at + 1;
         return Some(&slots[at]);
     }
@@ -150,28 +156,25 @@ fn slot_near<'s>(
 }
 
 // The slot of the row over the leaders of three variables, if they aren't all constant and it is found.
-fn slot_of<'e>(
-    engine: &'e Engine,
-    place: &mut usize,
-    row: RowId,
-    v: VarId,
-    w: VarId,
-    x: VarId,
-) -> Option<&'e Slot>
-    requires row { IsRowOf engine.now.grammar row }
+fn slot_of<'e>(engine: &'e Engine, place: &mut usize, triple: Triple<VarId>) -> Option<&'e Slot>
+    requires row { IsRowOf engine.now.grammar triple.row }
     requires some { 0 < engine.now.kept.samples }
-    requires vars { IsTrue (admits row engine.now.infos (v ∷ w ∷ x ∷ [])) }
-    ensures state { IfSome result (λ slot. slot.now.state ≡ state_read engine.now.kept row (v ∷ w ∷ x ∷ [])) }
-    ensures proper { IfSome result (λ slot. IsProper (form_of row) slot.now.state) }
+    requires vars { IsTrue (admits triple.row engine.now.infos (vars_in triple)) }
+    ensures state { IfSome result (λ slot. slot.now.state ≡ state_read engine.now.kept triple.row (vars_in triple)) }
+    ensures proper { IfSome result (λ slot. IsProper (form_of triple.row) slot.now.state) }
 {
     let kept = engine.kept();
-    let a = kept.leaders.leader(v);
-    let b = kept.leaders.leader(w);
-    let c = kept.leaders.leader(x);
-    if are_known(&kept.known, &[a, b, c]) || !is_written(row, &[a, b, c]) {
+    let own = Triple {
+        row: triple.row,
+        v: kept.leaders.leader(triple.v),
+        w: kept.leaders.leader(triple.w),
+        x: kept.leaders.leader(triple.x),
+    };
+    let leaders = [own.v, own.w, own.x];
+    if are_known(&kept.known, &leaders) || !is_written(own.row, &leaders) {
         return None;
     }
-    slot_near(kept.slots.as_slice(), place, row, a, b, c)
+    slot_near(kept.slots.as_slice(), place, own)
 }
 
 // ---- numbers
@@ -210,24 +213,24 @@ fn all_lead(engine: &Engine, vars: &[VarId]) -> bool
 
 // Whether the row is seen to be Broken over three leaders that aren't all constant: it has no slot there, as the place says, and no rule of
 // it follows.
-fn is_broken(noted: &Noted<'_>, place: usize, row: RowId, v: VarId, w: VarId, x: VarId) -> bool
-    requires row { IsRowOf noted.now.engine.now.grammar row }
+fn is_broken(noted: &Noted<'_>, place: usize, triple: Triple<VarId>) -> bool
+    requires row { IsRowOf noted.now.engine.now.grammar triple.row }
     requires some { 0 < noted.now.engine.now.kept.samples }
-    requires vars { IsTrue (admits row noted.now.engine.now.infos (v ∷ w ∷ x ∷ [])) }
-    ensures { IsTrue result → state_read noted.now.engine.now.kept row (v ∷ w ∷ x ∷ []) ≡ Broken }
+    requires vars { IsTrue (admits triple.row noted.now.engine.now.infos (vars_in triple)) }
+    ensures { IsTrue result → state_read noted.now.engine.now.kept triple.row (vars_in triple) ≡ Broken }
 {
     let kept = noted.engine.kept();
-    let vars = [v, w, x];
+    let vars = [triple.v, triple.w, triple.x];
     if !all_lead(noted.engine, &vars) {
         return false;
     }
-    if are_known(&kept.known, &vars) || !is_written(row, &vars) {
+    if are_known(&kept.known, &vars) || !is_written(triple.row, &vars) {
         return false;
     }
-    if !is_gap(kept.slots.as_slice(), place, row, v, w, x) {
+    if !is_gap(kept.slots.as_slice(), place, triple) {
         return false;
     }
-    !suppressed(row, &vars, noted)
+    !suppressed(triple.row, &vars, noted)
 }
 
 /// The state of a row over three variables in one engine. Its slot is looked for at this place first, which then is the one behind it.
@@ -235,30 +238,34 @@ pub(crate) fn state_of_three(
     alloc: Global,
     noted: &Noted<'_>,
     place: &mut usize,
-    row: RowId,
-    v: Told,
-    w: Told,
-    x: Told,
+    triple: Triple<Told>,
 ) -> Result<State, NoMemory>
-    requires row { IsRowOf noted.now.engine.now.grammar row }
-    requires three { arity_of row ≡ 3 }
+    requires row { IsRowOf noted.now.engine.now.grammar triple.row }
+    requires three { arity_of triple.row ≡ 3 }
     requires some { 0 < noted.now.engine.now.kept.samples }
-    requires vars { IsTrue (admits row noted.now.engine.now.infos (v.var ∷ w.var ∷ x.var ∷ [])) }
-    requires v { v.number ≡ number_of noted.now.engine.now.kept v.var }
-    requires w { w.number ≡ number_of noted.now.engine.now.kept w.var }
-    requires x { x.number ≡ number_of noted.now.engine.now.kept x.var }
-    ensures state { IfOk result (λ s. s ≡ state_read noted.now.engine.now.kept row (v.var ∷ w.var ∷ x.var ∷ [])) }
-    ensures proper { IfOk result (λ s. IsProper (form_of row) s) }
-    ensures err { OnErr result (MayWantMemory row) }
+    requires vars { IsTrue (admits triple.row noted.now.engine.now.infos (vars_in (untold triple))) }
+    requires v { triple.v.number ≡ number_of noted.now.engine.now.kept triple.v.var }
+    requires w { triple.w.number ≡ number_of noted.now.engine.now.kept triple.w.var }
+    requires x { triple.x.number ≡ number_of noted.now.engine.now.kept triple.x.var }
+    ensures state { IfOk result (λ s. s ≡ state_read noted.now.engine.now.kept triple.row (vars_in (untold triple))) }
+    ensures proper { IfOk result (λ s. IsProper (form_of triple.row) s) }
+    ensures err { OnErr result (MayWantMemory triple.row) }
 {
+    let Triple { row, v, w, x } = triple;
     if let (Some(a), Some(b), Some(c)) = (v.number, w.number, x.number) {
         return state_of_numbers(alloc, row, a, b, c);
     }
     let engine = noted.engine;
-    match slot_of(engine, place, row, v.var, w.var, x.var) {
+    let asked = Triple {
+        row,
+        v: v.var,
+        w: w.var,
+        x: x.var,
+    };
+    match slot_of(engine, place, asked) {
         Some(slot) => slot.state.copy(alloc),
         None => {
-            if is_broken(noted, *place, row, v.var, w.var, x.var) {
+            if is_broken(noted, *place, asked) {
                 return Ok(State::Broken);
             }
             engine.answer(row, &[v.var, w.var, x.var])

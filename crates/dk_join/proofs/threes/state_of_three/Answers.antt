@@ -15,10 +15,10 @@ use Rattle.dk_join.proofs.threes.state_of_three.Goals as goal
 pub returns-in-Some-Some-Some-clause-state : goal.returns-in-Some-Some-Some-clause-state
 returns-in-Some-Some-Some-clause-state c =
     let e = c.args.noted.now.engine.now in
-    let row = c.args.row in
-    let v = c.args.v in
-    let w = c.args.w in
-    let x = c.args.x in
+    let row = c.args.triple.row in
+    let v = c.args.triple.v in
+    let w = c.args.triple.w in
+    let x = c.args.triple.x in
     let p = c.in-Some-Some-Some.a in
     let q = c.in-Some-Some-Some.b in
     let r = c.in-Some-Some-Some.c in
@@ -39,4 +39,4 @@ returns-in-Some-Some-Some-clause-state c =
 pub returns-in-Some-clause-err : goal.returns-in-Some-clause-err
 returns-in-Some-clause-err c =
     on_err_weaker c.copy.result
-    (λ texts. texts_state_wants c.args.row (row_is c.args.noted.now.engine.now.grammar c.args.row c.requires.row) c.in-Some.slot.now.state c.in-Some.ensures.proper texts) c.copy.ensures.err
+    (λ texts. texts_state_wants c.args.triple.row (row_is c.args.noted.now.engine.now.grammar c.args.triple.row c.requires.row) c.in-Some.slot.now.state c.in-Some.ensures.proper texts) c.copy.ensures.err

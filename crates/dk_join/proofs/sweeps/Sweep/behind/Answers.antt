@@ -1,5 +1,5 @@
 use Rattle.std.specs.Prelude.{◌++◌, All, List, None, false, map, slice_index_or}
-use Rattle.std.proofs.Common.{◌∙◌, ap, arith, subst, sym}
+use Rattle.std.proofs.Common.{◌∙◌, ap, arith, rules, subst, sym}
 use Rattle.std.proofs.lemmas.List.{take_all}
 use Rattle.dk_base.specs.declared.kinds.VarId.{VarId}
 use Rattle.dk_engine.specs.Sweeps.{behind, thirds}
@@ -10,11 +10,17 @@ use Rattle.dk_join.specs.Joining.{answer_of}
 use Rattle.dk_join.specs.declared.beside.Companion.{Companion}
 use Rattle.dk_join.proofs.sweeps.Sweep.behind.Goals as goal
 
-pub thirds_beside-requires-clause-w : goal.thirds_beside-requires-clause-w
-thirds_beside-requires-clause-w c =
+pub thirds_beside-requires-clause-walk : goal.thirds_beside-requires-clause-walk
+thirds_beside-requires-clause-walk c =
     let Are : List Companion → Type 0 = All (IsCompanion c.args.self.now.both.now c.args.row c.args.v) in
     let all : Are c.deref-w-items.result.now = subst Are (sym c.deref-w-items.ensures.value) c.in_ok-beside.ensures.each in
-    all c.loop-w.w-index (record { leader = record { 0 = 0 }; numbers = record { first = None; second = None }; by_first = false; by_second = false }) c.loop-w-test.true
+    record {
+      row = c.requires.row;
+      three = c.requires.three;
+      operation = search rules;
+      v = search rules;
+      w = all c.loop-w.w-index (record { leader = record { 0 = 0 }; numbers = record { first = None; second = None }; by_first = false; by_second = false }) c.loop-w-test.true;
+    }
 
 pub thirds_beside-requires-clause-beside : goal.thirds_beside-requires-clause-beside
 thirds_beside-requires-clause-beside c =

@@ -4,4 +4,4 @@ use Rattle.dk_engine.specs.Sweeps.{thirds}
 use Rattle.dk_join.proofs.sweeps.Sweep.thirds.Given as goal
 
 abbrev pub invariant-loop-x : goal.invariant-loop-x
-invariant-loop-x l = l.slots ≡ l.initial.slots ++ thirds l.self.both.now.first.infos l.self.known.now (answer_of l.self.both.now) l.row l.v.var l.w.leader (map (λ x. x.leader) (take l.x-index l.third))
+invariant-loop-x l = l.slots ≡ l.initial.slots ++ thirds l.self.both.now.first.infos l.self.known.now (answer_of l.self.both.now) l.walk.row l.walk.v.var l.walk.w.leader (map (λ x. x.leader) (take l.x-index l.third))
