@@ -4,7 +4,7 @@ ghost use Rattle.std.specs.List.{list_any};
 ghost use Rattle.dk_filters.specs.Facts.{facts_of, is_at_one_parent, is_constant_instance_by, is_further_member_by, tells_member_by};
 ghost use Rattle.dk_filters.specs.Found.{by_partner, first_in, found_of, one_value_in};
 ghost use Rattle.dk_filters.specs.Memory.{MayWantMemoryWhenJudged};
-ghost use Rattle.dk_filters.specs.Parents.{IsViewOf, answers_by, parent_shown};
+ghost use Rattle.dk_filters.specs.Parents.{IsViewOf, parent_shown, parents_shown, point_shown};
 ghost use Rattle.dk_template.specs.Admitted.{admits};
 ghost use Rattle.dk_template.specs.Premises.{MayWantMemory as AnswerMayWantMemory};
 ghost use Rattle.dk_template.specs.Templates.{IsRowOf};
@@ -104,37 +104,47 @@ fn is_at_parent<P: Answers>(
     Ok(false)
 }
 
+/// A point whose instances are judged.
+#[derive(Drop)]
+pub struct PointView<'a, A, P> {
+    /// What answers for the point.
+    pub here: &'a A,
+    /// The point's variables.
+    pub vars: &'a [VarInfo],
+    /// Its parents by edge.
+    pub parents: &'a [ParentView<'a, P>],
+}
+
 /// The facts of an instance with what is found once for its point: nothing is looked for among all variables, and of a parent only
 /// the variables whose partners are the instance's are asked about. Its state is given, since a report has it. Only rows over strings
 /// want memory.
 pub fn judge_with<A: Answers, P: Answers>(
     least: u64,
-    vars: &[VarInfo],
-    here: &A,
-    parents: &[ParentView<'_, P>],
+    point: &PointView<'_, A, P>,
     found: &PointFacts,
     row: RowId,
     tuple: &[VarId],
     state: &State,
 ) -> Result<Facts, NoMemory>
-    requires infos { A.infos here.now ≡ vars.now }
-    requires parents { All (λ p. IsRowOf (P.grammar p.answers.now) row × IsViewOf (P.infos p.answers.now) vars.now (parent_shown P.answered P.counted P.agreeing p)) parents.now }
-    requires found { found.now ≡ found_of (answers_by vars.now (A.answered here.now) (A.counted here.now) (A.agreeing here.now)) (map (parent_shown P.answered P.counted P.agreeing) parents.now) }
-    requires row { IsRowOf (A.grammar here.now) row }
-    requires instance { IsTrue (admits row vars.now tuple.now) }
-    requires state { state.now ≡ A.answered here.now row tuple.now }
-    ensures facts { IfOk result (λ facts. facts ≡ facts_of least (answers_by vars.now (A.answered here.now) (A.counted here.now) (A.agreeing here.now)) (map (parent_shown P.answered P.counted P.agreeing) parents.now) row tuple.now) }
+    requires infos { A.infos point.now.here.now ≡ point.now.vars.now }
+    requires parents { All (λ p. IsRowOf (P.grammar p.answers.now) row × IsViewOf (P.infos p.answers.now) point.now.vars.now (parent_shown P.answered P.counted P.agreeing p)) point.now.parents.now }
+    requires found { found.now ≡ found_of (point_shown A.answered A.counted A.agreeing point.now) (parents_shown P.answered P.counted P.agreeing point.now) }
+    requires row { IsRowOf (A.grammar point.now.here.now) row }
+    requires instance { IsTrue (admits row point.now.vars.now tuple.now) }
+    requires state { state.now ≡ A.answered point.now.here.now row tuple.now }
+    ensures facts { IfOk result (λ facts. facts ≡ facts_of least (point_shown A.answered A.counted A.agreeing point.now) (parents_shown P.answered P.counted P.agreeing point.now) row tuple.now) }
     ensures err { OnErr result (MayWantMemoryWhenJudged row) }
 {
+    let here = point.here;
     let firsts = found.firsts.as_slice();
     let one_values = found.one_values.as_slice();
     let partners = found.partners.as_slice();
     let few = here.count(tuple) < least;
-    let incomparable = is_incomparable(vars, tuple);
+    let incomparable = is_incomparable(point.vars, tuple);
     let member = is_member(firsts, row, tuple);
     let constant = is_constant(firsts, one_values, row, tuple);
     let implied = is_implied(here, row, tuple)?;
-    let parent = is_at_parent(vars, parents, partners, row, tuple, state)?;
+    let parent = is_at_parent(point.vars, point.parents, partners, row, tuple, state)?;
     Ok(Facts {
         few,
         incomparable,
@@ -145,25 +155,23 @@ pub fn judge_with<A: Answers, P: Answers>(
     })
 }
 
-/// The facts of an instance: for each filter whether it drops the instance, whatever the other ones do. `parents` are the parents by
-/// edge. What `judge_with` takes is found here anew.
+/// The facts of an instance: for each filter whether it drops the instance, whatever the other ones do. What `judge_with` takes is
+/// found here anew.
 pub fn judge<A: Answers, P: Answers>(
     alloc: Global,
     least: u64,
-    vars: &[VarInfo],
-    here: &A,
-    parents: &[ParentView<'_, P>],
+    point: &PointView<'_, A, P>,
     row: RowId,
     tuple: &[VarId],
 ) -> Result<Facts, NoMemory>
-    requires infos { A.infos here.now ≡ vars.now }
-    requires small { length vars.now < 2 ^ 32 }
-    requires parents { All (λ p. IsRowOf (P.grammar p.answers.now) row × IsViewOf (P.infos p.answers.now) vars.now (parent_shown P.answered P.counted P.agreeing p)) parents.now }
-    requires row { IsRowOf (A.grammar here.now) row }
-    requires instance { IsTrue (admits row vars.now tuple.now) }
-    ensures { IfOk result (λ facts. facts ≡ facts_of least (answers_by vars.now (A.answered here.now) (A.counted here.now) (A.agreeing here.now)) (map (parent_shown P.answered P.counted P.agreeing) parents.now) row tuple.now) }
+    requires infos { A.infos point.now.here.now ≡ point.now.vars.now }
+    requires small { length point.now.vars.now < 2 ^ 32 }
+    requires parents { All (λ p. IsRowOf (P.grammar p.answers.now) row × IsViewOf (P.infos p.answers.now) point.now.vars.now (parent_shown P.answered P.counted P.agreeing p)) point.now.parents.now }
+    requires row { IsRowOf (A.grammar point.now.here.now) row }
+    requires instance { IsTrue (admits row point.now.vars.now tuple.now) }
+    ensures { IfOk result (λ facts. facts ≡ facts_of least (point_shown A.answered A.counted A.agreeing point.now) (parents_shown P.answered P.counted P.agreeing point.now) row tuple.now) }
 {
-    let found = PointFacts::of(alloc, vars, here, parents)?;
-    let state = here.answer(row, tuple)?;
-    judge_with(least, vars, here, parents, &found, row, tuple, &state)
+    let found = PointFacts::of(alloc, point.vars, point.here, point.parents)?;
+    let state = point.here.answer(row, tuple)?;
+    judge_with(least, point, &found, row, tuple, &state)
 }

@@ -18,5 +18,5 @@ pub use filter::{Filter, kept};
 pub use found::PointFacts;
 pub use implied::is_equality;
 pub use instances::{are_distinct, is_asked};
-pub use judging::{first_of, has_one_value, judge, judge_with};
+pub use judging::{PointView, first_of, has_one_value, judge, judge_with};
 pub use parents::ParentView;

@@ -7,7 +7,7 @@ use crate::Options;
 use crate::counting::Counted;
 use crate::keeping::keeps;
 use dk_base::{List, NoMemory, VarId, VarInfo};
-use dk_filters::{Candidate, ParentView, PointFacts, is_asked, judge_with};
+use dk_filters::{Candidate, ParentView, PointFacts, PointView, is_asked, judge_with};
 use dk_hierarchy::Merged;
 use dk_template::{Answers, Grammar, RowId, Tuple, fits};
 use std::alloc::Global;
@@ -49,16 +49,12 @@ impl<'a, 'e> Asking<'a, 'e> {
         if count < self.options.least {
             return Ok(list);
         }
-        let facts = judge_with(
-            self.options.least,
-            infos,
-            self.here,
-            self.parents,
-            self.found,
-            row,
-            vars,
-            &state,
-        )?;
+        let point = PointView {
+            here: self.here,
+            vars: infos,
+            parents: self.parents,
+        };
+        let facts = judge_with(self.options.least, &point, self.found, row, vars, &state)?;
         if !keeps(self.options, facts) {
             return Ok(list);
         }

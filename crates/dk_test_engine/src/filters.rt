@@ -77,17 +77,14 @@ fn judges_each_instance_once(rt: HostRuntime) -> Result<(), Fail> {
     };
     let parents: [ParentView<'_, LeastAlone<'_>>; 0] = [];
     if admits(RowId(12), vars, &[VarId(0), VarId(1)]) && admits(RowId(2), vars, &[VarId(0)]) {
-        let facts = judge(
-            rt.alloc(),
-            6,
+        let point = PointView {
+            here: &here,
             vars,
-            &here,
-            &parents,
-            RowId(12),
-            &[VarId(0), VarId(1)],
-        )?;
+            parents: &parents,
+        };
+        let facts = judge(rt.alloc(), 6, &point, RowId(12), &[VarId(0), VarId(1)])?;
         assert!(rt; facts.few && facts.incomparable && !facts.member && !facts.implied);
-        let facts = judge(rt.alloc(), 5, vars, &here, &parents, RowId(2), &[VarId(0)])?;
+        let facts = judge(rt.alloc(), 5, &point, RowId(2), &[VarId(0)])?;
         assert!(rt; !facts.few && !facts.incomparable && !facts.implied && !facts.parent);
     }
     Ok(())

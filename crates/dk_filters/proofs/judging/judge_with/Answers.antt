@@ -1,4 +1,4 @@
-use Rattle.std.specs.Prelude.{map, nat_lt}
+use Rattle.std.specs.Prelude.{nat_lt}
 use Rattle.std.specs.List.{list_any}
 use Rattle.std.proofs.Common.{ap, subst, sym, ◌∙◌}
 use Rattle.dk_forms.specs.declared.states.State.{State}
@@ -7,17 +7,17 @@ use Rattle.dk_filters.proofs.Asked.{admitted-there}
 use Rattle.dk_filters.proofs.Judged.{all_facts}
 use Rattle.dk_filters.specs.Facts.{is_at_one_parent, is_constant_instance_by, is_further_member_by}
 use Rattle.dk_filters.specs.Found.{first_in, one_value_in}
-use Rattle.dk_filters.specs.Parents.{answers_by, parent_shown}
+use Rattle.dk_filters.specs.Parents.{parents_shown, point_shown}
 use Rattle.dk_filters.proofs.judging.judge_with.Goals as goal
 
 pub count-requires-clause-there : goal.count-requires-clause-there
 count-requires-clause-there g c =
-    subst (λ infos. AreThere infos c.args.tuple.now) (sym c.requires.infos) (admitted-there c.args.vars.now c.args.row c.args.tuple.now c.requires.instance)
+    subst (λ infos. AreThere infos c.args.tuple.now) (sym c.requires.infos) (admitted-there c.args.point.now.vars.now c.args.row c.args.tuple.now c.requires.instance)
 
 pub returns-clause-facts : goal.returns-clause-facts
 returns-clause-facts g c =
-    let here = answers_by c.args.vars.now (g.A.Answers.answered c.args.here.now) (g.A.Answers.counted c.args.here.now) (g.A.Answers.agreeing c.args.here.now) in
-    let parents = map (parent_shown g.P.Answers.answered g.P.Answers.counted g.P.Answers.agreeing) c.args.parents.now in
+    let here = point_shown g.A.Answers.answered g.A.Answers.counted g.A.Answers.agreeing c.args.point.now in
+    let parents = parents_shown g.P.Answers.answered g.P.Answers.counted g.P.Answers.agreeing c.args.point.now in
     let r = c.args.row in
     let vars = c.args.tuple.now in
     all_facts c.args.least here parents r vars c.args.found.now c.requires.found c.requires.instance
