@@ -4,7 +4,7 @@ use Rattle.std.specs.Prelude.{IsTrue, codes}
 use Rattle.std.specs.Str.{bytes_eq}
 use Rattle.std.specs.List.{enumerate_from}
 use Rattle.std.proofs.lemmas.Bool.{cases_eq, cases_lt}
-use Rattle.std.proofs.lemmas.List.{get_or-set_other, get_or-set_same, length-set}
+use Rattle.std.proofs.lemmas.List.{get_or-set_other, get_or-set_same, get_or_append_left, length-set}
 use Rattle.std.proofs.lemmas.List.Elements.{All-cons, All-head, All-map, All-nil, All-push, All-tail, All-weaker}
 use Rattle.dk_base.specs.Reading.{Line, LineFault, ◌>>=◌}
 use Rattle.dk_base.specs.Shapes.{is_base_form}
@@ -28,6 +28,7 @@ use Rattle.dk_decl.specs.declared.header.Header.{Header}
 use Rattle.dk_derive.proofs.Written.{back_written, element_written, front_written, value_written}
 use Rattle.dk_derive.specs.Laws.{all_vars_of, base_of, var_kinds}
 use Rattle.dk_derive.specs.Values.{derived_value, next_place, number_of_elements, place, size, value_by_form, values_by_form}
+use Rattle.dk_hierarchy.proofs.Places.{get_or_behind}
 use Rattle.dk_hierarchy.specs.Samples.{own_samples_of}
 use Rattle.dk_instances.specs.Laws.{IsSample}
 use Rattle.dk_points.specs.Declaring.{at_line, declared}
@@ -48,7 +49,6 @@ use Rattle.dk_core.proofs.GivenBlocks.{IsGiven, block_gives}
 use Rattle.dk_core.proofs.GivenVars.{IsLineSpelled}
 use Rattle.dk_blocks.proofs.Derived.{are_derived, base_among}
 use Rattle.dk_blocks.proofs.Growing.{declared_points, more_points, same_all_vars}
-use Rattle.dk_core.proofs.Keeping.{get_or_append, get_or_behind}
 use Rattle.dk_core.proofs.OwnTables.{all_declared, own_constants, own_declared, own_vars}
 use Rattle.dk_core.proofs.Short.{IsShort, IsShortLine}
 use Rattle.dk_core.proofs.ShortRecords.{CallIsShort, ConstantsAreShort, HasShortConstants, base_short, call_short, sample_short}
@@ -137,13 +137,13 @@ declared_going h ps d line x going given e =
       word = going.word;
       declared_alone = λ p none. elim (cases_lt p (length h.table)) as (λ _. get_or (h.samples ++ replicate n []) p [] ≡ []) [
         | inl l ↦
-            get_or_append h.samples (replicate n []) p [] (omega (arith, l, going.many))
+            get_or_append_left h.samples (replicate n []) [] p (omega (arith, l, going.many))
             ∙ going.declared_alone p (subst (λ (o : Option PointDecl). IsTrue (is_none o)) (same_decls h.table ps p extends l) none)
         | inr l ↦ get_or_behind h.samples n p [] (omega (arith, l, going.many))
       ];
       samples = λ p. elim (cases_lt p (length h.table)) as (λ _. All (GivesSample ps p) (get_or (h.samples ++ replicate n []) p [])) [
         | inl l ↦
-            subst (All (GivesSample ps p)) (sym (get_or_append h.samples (replicate n []) p [] (omega (arith, l, going.many))))
+            subst (All (GivesSample ps p)) (sym (get_or_append_left h.samples (replicate n []) [] p (omega (arith, l, going.many))))
             (subst (λ (vars : List VarInfo). All (λ (base : List Value). IsSample vars (values_by_form vars base)) (get_or h.samples p [])) (sym (same_all_vars h.table ps p extends l)) (going.samples p))
         | inr l ↦ subst (All (GivesSample ps p)) (sym (get_or_behind h.samples n p [] (omega (arith, l, going.many)))) (All-nil (GivesSample ps p))
       ];

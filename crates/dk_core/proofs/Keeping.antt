@@ -1,13 +1,15 @@
 -- The engines of the points, block after block.
-use Rattle.std.proofs.Common.{◌≡◌, ◌≢◌, ◌∙◌, ◌<◌, ◌≤◌, ◌+◌, ◌⊎◌, inl, inr, ⊎_elim, ℕ, zero, suc, All, List, [], ◌∷◌, ◌++◌, length, map, get_or, slice_get, slice_set, replicate, Some, refl, sym, ap, subst, arith, length-append, append_assoc}
-use Rattle.std.proofs.lemmas.List.{append-nil, get_or-set_other, get_or-set_same, length-set, map-append}
+use Rattle.std.proofs.Common.{◌≡◌, ◌≢◌, ◌∙◌, ◌<◌, ◌≤◌, ◌+◌, ◌⊎◌, ⊎_elim, ℕ, zero, suc, All, List, [], ◌∷◌, ◌++◌, length, map, get_or, slice_get, slice_set, replicate, Some, refl, sym, ap, subst, arith, length-append, append_assoc}
+use Rattle.std.proofs.lemmas.List.{append-nil, get_or-set_other, get_or-set_same, get_or_append_left, length-set, map-append}
 use Rattle.std.proofs.lemmas.List.Elements.{All-append, All-cons, All-head, All-nil, All-tail}
+use Rattle.std.proofs.lemmas.Option.{slice_get_within}
 use Rattle.dk_base.specs.declared.kinds.VarInfo.{VarInfo}
 use Rattle.dk_base.specs.declared.values.Value.{Value}
 use Rattle.dk_derive.specs.Values.{values_by_form}
 use Rattle.dk_engine.specs.Exact.{AreOfPoint, AreSamples, IsKeptOf}
 use Rattle.dk_engine.specs.Reading.Levels.{Whole}
 use Rattle.dk_instances.specs.Laws.{IsSample}
+use Rattle.dk_hierarchy.proofs.Places.{get_last, get_or_behind, get_push, get_set}
 use Rattle.dk_hierarchy.specs.Samples.{OwnSamples, all_vars_of, own_samples_of}
 use Rattle.dk_hierarchy.specs.Standing.{AreEnginesOf, EngineStandsFor, EnginesStandFor}
 use Rattle.dk_points.specs.Table.{Point}
@@ -18,23 +20,6 @@ use Rattle.dk_blocks.specs.History.{own_samples_with}
 use Rattle.dk_core.specs.Growing.{AreGrown, IsNewAt}
 
 -- ---- lists by their places
-
-get_push : {X : Type 0} (xs ys : List X) (i : ℕ) (x : X) → slice_get (xs ++ ys) i ≡ Some x → (slice_get xs i ≡ Some x) ⊎ (length xs ≤ i)
-get_push [] ys i x at = inr (omega arith)
-get_push (y ∷ xs) ys zero x at = inl at
-get_push (y ∷ xs) ys (suc i) x at = ⊎_elim (λ h. inl h) (λ h. inr (omega (arith, h))) (get_push xs ys i x at)
-
-get_within : {X : Type 0} (xs : List X) (i : ℕ) (x : X) → slice_get xs i ≡ Some x → i < length xs
-get_within [] i x at = absurd (cc at)
-get_within (y ∷ xs) zero x at = omega arith
-get_within (y ∷ xs) (suc i) x at = let more = get_within xs i x at in omega (arith, more)
-
-get_set : {X : Type 0} (xs : List X) (p i : ℕ) (new x : X) → slice_get (slice_set xs p new) i ≡ Some x → ((i ≡ p) × (new ≡ x)) ⊎ ((i ≢ p) × (slice_get xs i ≡ Some x))
-get_set [] p i new x at = absurd (cc at)
-get_set (y ∷ xs) zero zero new x at = inl (refl, cc at)
-get_set (y ∷ xs) zero (suc i) new x at = inr (omega arith, at)
-get_set (y ∷ xs) (suc p) zero new x at = inr (omega arith, at)
-get_set (y ∷ xs) (suc p) (suc i) new x at = ⊎_elim (λ h. inl (ap suc h.0, h.1)) (λ h. inr (λ e. h.0 (omega (arith, e)), h.1)) (get_set xs p i new x at)
 
 all_at : {X : Type 0} (P : X → Type 0) (xs : List X) → ((i : ℕ) (x : X) → slice_get xs i ≡ Some x → P x) → All P xs
 all_at P [] each = All-nil P
@@ -49,21 +34,6 @@ pub got : {X : Type 0} (xs : List X) (i : ℕ) (x : X) → i < length xs → x �
 got [] i x there is = absurd (omega arith)
 got (y ∷ xs) zero x there is = ap (λ z. Some z) (sym is)
 got (y ∷ xs) (suc i) x there is = got xs i x (omega arith) is
-
-pub get_or_append : {X : Type 0} (xs ys : List X) (i : ℕ) (d : X) → i < length xs → get_or (xs ++ ys) i d ≡ get_or xs i d
-get_or_append [] ys i d there = absurd (omega arith)
-get_or_append (x ∷ xs) ys zero d there = refl
-get_or_append (x ∷ xs) ys (suc i) d there = get_or_append xs ys i d (omega arith)
-
-get_or_none : {X : Type 0} (n i : ℕ) (d : X) → get_or (replicate n d) i d ≡ d
-get_or_none zero i d = refl
-get_or_none (suc n) zero d = refl
-get_or_none (suc n) (suc i) d = get_or_none n i d
-
-pub get_or_behind : {X : Type 0} (xs : List X) (n i : ℕ) (d : X) → length xs ≤ i → get_or (xs ++ replicate n d) i d ≡ d
-get_or_behind [] n i d past = get_or_none n i d
-get_or_behind (x ∷ xs) n zero d past = absurd (omega arith)
-get_or_behind (x ∷ xs) n (suc i) d past = get_or_behind xs n i d (omega arith)
 
 -- ---- the samples of a point
 
@@ -83,7 +53,7 @@ own_still : (ps ps' : List Point) (own : OwnSamples) (n i : ℕ) → Extends ps 
     → own_samples_of ps' (own ++ replicate n []) i ≡ own_samples_of ps own i
 own_still ps ps' own n i extends many there =
     ap (λ (vars : List VarInfo). map (values_by_form vars) (get_or (own ++ replicate n []) i [])) (same_all_vars ps ps' i extends there)
-    ∙ ap (map (values_by_form (all_vars_of ps i))) (get_or_append own (replicate n []) i [] (omega (arith, there, many)))
+    ∙ ap (map (values_by_form (all_vars_of ps i))) (get_or_append_left own (replicate n []) [] i (omega (arith, there, many)))
 
 -- and a new one has none
 own_new : (ps' : List Point) (own : OwnSamples) (n i : ℕ) → length own ≤ i → own_samples_of ps' (own ++ replicate n []) i ≡ []
@@ -171,7 +141,7 @@ engines_grown ps ps' grammar engines all extends are by_grammar grown = (
     old_or_new i engine is = get_push engines grown.more i engine (sym (ap (λ (l : List Whole). slice_get l i) grown.split) ∙ is)
 
     there : (i : ℕ) (engine : Whole) → slice_get engines i ≡ Some engine → i < length ps
-    there i engine is = let within = get_within engines i engine is in omega (arith, within, are.long)
+    there i engine is = let within = slice_get_within engines i engine is in omega (arith, within, are.long)
 
     by_one : (i : ℕ) (engine : Whole) → slice_get all i ≡ Some engine → engine.grammar ≡ grammar
     by_one i engine is = ⊎_elim (λ h. all_get (λ (e : Whole). e.grammar ≡ grammar) engines i engine by_grammar h) (λ h. (grown.new i engine h is).by_grammar) (old_or_new i engine is)
@@ -188,14 +158,8 @@ growing_none ps grammar engines = record {
   long = refl;
   more = [];
   split = sym (append-nil engines);
-  new = λ i engine past at. absurd (let within = get_within engines i engine at in omega (arith, past, within));
+  new = λ i engine past at. absurd (let within = slice_get_within engines i engine at in omega (arith, past, within));
 }
-
-get_last : {X : Type 0} (xs : List X) (y : X) (i : ℕ) (x : X) → slice_get (xs ++ y ∷ []) i ≡ Some x → (slice_get xs i ≡ Some x) ⊎ ((i ≡ length xs) × (y ≡ x))
-get_last [] y zero x at = inr (refl, cc at)
-get_last [] y (suc i) x at = absurd (cc at)
-get_last (z ∷ xs) y zero x at = inl at
-get_last (z ∷ xs) y (suc i) x at = ⊎_elim (λ h. inl h) (λ h. inr (ap suc h.0, h.1)) (get_last xs y i x at)
 
 pub growing_more : (ps : List Point) (grammar : Grammar) (engines all : List Whole) (place : ℕ) (e : Whole) → IsNewAt ps grammar place e
     → AreGrowing ps grammar engines all place → AreGrowing ps grammar engines (all ++ e ∷ []) (place + 1)
@@ -216,7 +180,7 @@ pub stand_grown : (ps ps' : List Point) (grammar : Grammar) (engines all : List 
     → AreGrown ps' grammar engines all → EnginesStandFor engines (own_samples_of ps own) → EnginesStandFor all (own_samples_of ps' (own ++ replicate n []))
 stand_grown ps ps' grammar engines all own n extends many long grown stands = λ i engine is.
     ⊎_elim
-    (λ h. let within = get_within engines i engine h in
+    (λ h. let within = slice_get_within engines i engine h in
     subst (EngineStandsFor engine) (sym (own_still ps ps' own n i extends many (omega (arith, within, long)))) (stands i engine h))
     (λ h. let new = grown.new i engine h is in
     subst (EngineStandsFor engine) (sym (own_new ps' own n i (omega (arith, h, long, many))))

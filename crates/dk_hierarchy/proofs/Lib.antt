@@ -24,3 +24,4 @@ pub mod Following
 pub mod Answering
 pub mod TableEngines
 pub mod Alone
+pub mod Places

@@ -1,6 +1,7 @@
 -- The splits of the points, block after block.
-use Rattle.std.proofs.Common.{◌≡◌, ◌≢◌, ◌∙◌, ◌<◌, ◌≤◌, ◌+◌, ◌⊎◌, inl, inr, ⊎_elim, ℕ, zero, suc, List, [], ◌∷◌, ◌++◌, length, map, get_or, slice_get, slice_set, replicate, Some, refl, sym, ap, subst, arith, length-append, append_assoc}
-use Rattle.std.proofs.lemmas.List.{append-nil, get_or-set_other, get_or-set_same, length-set, map-append}
+use Rattle.std.proofs.Common.{◌≡◌, ◌≢◌, ◌∙◌, ◌<◌, ◌≤◌, ◌+◌, ◌⊎◌, ⊎_elim, ℕ, List, [], ◌∷◌, ◌++◌, length, map, get_or, slice_get, replicate, Some, refl, sym, ap, subst, arith, length-append, append_assoc}
+use Rattle.std.proofs.lemmas.List.{append-nil, get_or-set_other, get_or-set_same, get_or_append_left, length-set, map-append}
+use Rattle.std.proofs.lemmas.Option.{slice_get_within}
 use Rattle.dk_base.specs.declared.kinds.VarInfo.{VarInfo}
 use Rattle.dk_base.specs.declared.values.Value.{Value}
 use Rattle.dk_blocks.proofs.Growing.{same_all_vars}
@@ -8,50 +9,11 @@ use Rattle.dk_blocks.specs.Fitting.{Extends}
 use Rattle.dk_blocks.specs.History.{own_samples_with}
 use Rattle.dk_derive.specs.Values.{values_by_form}
 use Rattle.dk_implications.specs.Standing.{Engines, StandFor}
+use Rattle.dk_hierarchy.proofs.Places.{get_last, get_or_behind, get_push, get_set}
 use Rattle.dk_hierarchy.specs.Samples.{OwnSamples, all_vars_of, own_samples_of}
 use Rattle.dk_points.specs.Table.{Point}
 use Rattle.dk_split.specs.Growing.{AreGrown, IsFed, IsNewAt}
 use Rattle.dk_split.specs.Standing.{AreSplitsOf, IsSplitAt, SplitsStandFor}
-
--- ---- lists by their places
-
-get_push : {X : Type 0} (xs ys : List X) (i : ℕ) (x : X) → slice_get (xs ++ ys) i ≡ Some x → (slice_get xs i ≡ Some x) ⊎ (length xs ≤ i)
-get_push [] ys i x at = inr (omega arith)
-get_push (y ∷ xs) ys zero x at = inl at
-get_push (y ∷ xs) ys (suc i) x at = ⊎_elim (λ h. inl h) (λ h. inr (omega (arith, h))) (get_push xs ys i x at)
-
-pub get_within : {X : Type 0} (xs : List X) (i : ℕ) (x : X) → slice_get xs i ≡ Some x → i < length xs
-get_within [] i x at = absurd (cc at)
-get_within (y ∷ xs) zero x at = omega arith
-get_within (y ∷ xs) (suc i) x at = let more = get_within xs i x at in omega (arith, more)
-
-get_set : {X : Type 0} (xs : List X) (p i : ℕ) (new x : X) → slice_get (slice_set xs p new) i ≡ Some x → ((i ≡ p) × (new ≡ x)) ⊎ ((i ≢ p) × (slice_get xs i ≡ Some x))
-get_set [] p i new x at = absurd (cc at)
-get_set (y ∷ xs) zero zero new x at = inl (refl, cc at)
-get_set (y ∷ xs) zero (suc i) new x at = inr (omega arith, at)
-get_set (y ∷ xs) (suc p) zero new x at = inr (omega arith, at)
-get_set (y ∷ xs) (suc p) (suc i) new x at = ⊎_elim (λ h. inl (ap suc h.0, h.1)) (λ h. inr (λ e. h.0 (omega (arith, e)), h.1)) (get_set xs p i new x at)
-
-get_last : {X : Type 0} (xs : List X) (y : X) (i : ℕ) (x : X) → slice_get (xs ++ y ∷ []) i ≡ Some x → (slice_get xs i ≡ Some x) ⊎ ((i ≡ length xs) × (y ≡ x))
-get_last [] y zero x at = inr (refl, cc at)
-get_last [] y (suc i) x at = absurd (cc at)
-get_last (z ∷ xs) y zero x at = inl at
-get_last (z ∷ xs) y (suc i) x at = ⊎_elim (λ h. inl h) (λ h. inr (ap suc h.0, h.1)) (get_last xs y i x at)
-
-get_or_append : {X : Type 0} (xs ys : List X) (i : ℕ) (d : X) → i < length xs → get_or (xs ++ ys) i d ≡ get_or xs i d
-get_or_append [] ys i d there = absurd (omega arith)
-get_or_append (x ∷ xs) ys zero d there = refl
-get_or_append (x ∷ xs) ys (suc i) d there = get_or_append xs ys i d (omega arith)
-
-get_or_none : {X : Type 0} (n i : ℕ) (d : X) → get_or (replicate n d) i d ≡ d
-get_or_none zero i d = refl
-get_or_none (suc n) zero d = refl
-get_or_none (suc n) (suc i) d = get_or_none n i d
-
-get_or_behind : {X : Type 0} (xs : List X) (n i : ℕ) (d : X) → length xs ≤ i → get_or (xs ++ replicate n d) i d ≡ d
-get_or_behind [] n i d past = get_or_none n i d
-get_or_behind (x ∷ xs) n zero d past = absurd (omega arith)
-get_or_behind (x ∷ xs) n (suc i) d past = get_or_behind xs n i d (omega arith)
 
 -- ---- the samples of a point
 
@@ -71,7 +33,7 @@ own_still : (ps ps' : List Point) (own : OwnSamples) (n i : ℕ) → Extends ps 
     → own_samples_of ps' (own ++ replicate n []) i ≡ own_samples_of ps own i
 own_still ps ps' own n i extends many there =
     ap (λ (vars : List VarInfo). map (values_by_form vars) (get_or (own ++ replicate n []) i [])) (same_all_vars ps ps' i extends there)
-    ∙ ap (map (values_by_form (all_vars_of ps i))) (get_or_append own (replicate n []) i [] (omega (arith, there, many)))
+    ∙ ap (map (values_by_form (all_vars_of ps i))) (get_or_append_left own (replicate n []) [] i (omega (arith, there, many)))
 
 -- and a new one has none
 own_new : (ps' : List Point) (own : OwnSamples) (n i : ℕ) → length own ≤ i → own_samples_of ps' (own ++ replicate n []) i ≡ []
@@ -110,7 +72,7 @@ splits_grown ps ps' splits all extends are grown = record {
   long = grown.long;
   each = λ i split at. ⊎_elim
       (λ h. let was = are.each i split h in
-      let within = get_within splits i split h in
+      let within = slice_get_within splits i split h in
       record { infos = was.infos ∙ sym (same_all_vars ps ps' i extends (omega (arith, within, are.long))); by_grammar = was.by_grammar })
       (λ h. (grown.new i split h at).at)
       (old_or_new ps' splits all grown i split at);
@@ -120,7 +82,7 @@ pub stand_grown : (ps ps' : List Point) (splits all : List Engines) (own : OwnSa
     → AreGrown ps' splits all → SplitsStandFor splits (own_samples_of ps own) → SplitsStandFor all (own_samples_of ps' (own ++ replicate n []))
 stand_grown ps ps' splits all own n extends many long grown stand = λ i split at.
     ⊎_elim
-    (λ h. let within = get_within splits i split h in
+    (λ h. let within = slice_get_within splits i split h in
     subst (StandFor split) (sym (own_still ps ps' own n i extends many (omega (arith, within, long)))) (stand i split h))
     (λ h. subst (StandFor split) (sym (own_new ps' own n i (omega (arith, h, long, many)))) (grown.new i split h at).stands)
     (old_or_new ps' splits all grown i split at)
@@ -137,7 +99,7 @@ growing_none ps splits = record {
   long = refl;
   more = [];
   grows = sym (append-nil splits);
-  new = λ i split past at. absurd (let within = get_within splits i split at in omega (arith, past, within));
+  new = λ i split past at. absurd (let within = slice_get_within splits i split at in omega (arith, past, within));
 }
 
 pub growing_more : (ps : List Point) (splits all : List Engines) (place : ℕ) (e : Engines) → IsNewAt ps place e → AreGrowing ps splits all place → AreGrowing ps splits (all ++ e ∷ []) (place + 1)

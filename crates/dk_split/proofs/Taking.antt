@@ -1,6 +1,7 @@
 -- The splits behind what a block does.
 use Rattle.std.proofs.Common.{◌≡◌, ◌∙◌, ℕ, List, [], ◌∷◌, ◌++◌, length, replicate, slice_get, Some, OnOk, Result, Ok, Err, ap, arith, refl, subst, sym, length-append}
 use Rattle.std.proofs.lemmas.List.{append-nil, length-replicate, length-set}
+use Rattle.std.proofs.lemmas.Option.{slice_get_within}
 use Rattle.std.specs.List.{AllZip}
 use Rattle.dk_base.specs.Values.{IsOfKind, values_of}
 use Rattle.dk_base.specs.declared.kinds.VarInfo.{VarInfo}
@@ -16,7 +17,7 @@ use Rattle.dk_implications.specs.Standing.{Engines}
 use Rattle.dk_hierarchy.specs.Samples.{OwnSamples, all_vars_of, own_samples_of}
 use Rattle.dk_points.specs.Table.{Point}
 use Rattle.dk_trace.specs.Fitting.{FitKinds}
-use Rattle.dk_split.proofs.Keeping.{get_within, splits_fed, splits_grown, splits_still, stand_grown}
+use Rattle.dk_split.proofs.Keeping.{splits_fed, splits_grown, splits_still, stand_grown}
 use Rattle.dk_split.specs.Growing.{AreGrown, AreKeptUp, IsFed, TakesEvent}
 use Rattle.dk_split.specs.Standing.{AreSplitsOf, SplitsStandFor, StandsFor}
 use Rattle.dk_split.specs.declared.splits.Splits.{Splits}
@@ -72,7 +73,7 @@ none_more told = record { more = []; points_are = sym (append-nil told.points); 
 fed_stand : (s new : Splits) (file line p : ℕ) (values : List Value) (old all : Told) → StandsFor s old.points old.samples → SamplesMore file line p values old all
     → IsFed s.splits.items new.splits.items p values → StandsFor new all.points all.samples
 fed_stand s new file line p values old all stands more fed =
-    let within = get_within s.splits.items p fed.old fed.there in
+    let within = slice_get_within s.splits.items p fed.old fed.there in
     record {
       long = ap length fed.is ∙ length-set s.splits.items p fed.new ∙ stands.long ∙ ap length (sym more.points_are);
       many = ap length more.samples_are ∙ samples_with_length old.samples p more.base ∙ stands.many ∙ ap length (sym more.points_are);
